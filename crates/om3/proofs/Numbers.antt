@@ -1,0 +1,42 @@
+-- The definitions answer as document 01 says, by computing them. Assumes nothing.
+use mathlib.Core.Path.{_≡_, refl}
+use mathlib.Core.List.{List, map}
+use Prim.Native.Nat.{ℕ}
+use Rattle.om3.specs.Lists.{upFrom, any, every, keep, firstFrom}
+use Rattle.om3.specs.Series.{levels, hourOf}
+use Rattle.om3.specs.Nodes.{width, start, hours, levelOf}
+use Rattle.om3.specs.Ranges.{look, rangeOf}
+use Rattle.om3.specs.Table.{coefficient, pairCode}
+use Rattle.om3.specs.Down.{reachedAt}
+use Rattle.om3.specs.Sound.{soundNode, nodesBelow, firstUnsound, examine}
+use Rattle.om3.specs.Refusals.{firstBadHour}
+use Rattle.om3.specs.Columns.{edges}
+use Rattle.om3.specs.Stopped.{shares, inside, opened, visited, countAt, rangeOver, outer, innerNodes, stopped}
+use Rattle.om3.specs.Finished.{walk, walkEnd, lastOr, finished}
+use Rattle.om3.specs.Days.{dayChange}
+use Rattle.om3.specs.Numbers.{Case, replyTo, numbers, unmarked, outside}
+
+-- Each question of a list is replied to as the list says.
+abbrev pub Holds : List Case → Type 0
+Holds cs = map (λ (c : Case). replyTo (c .question)) cs ≡ map (λ (c : Case). c .reply) cs
+
+unfoldable computing : Unit {0}
+unfolding upFrom any every keep firstFrom levels hourOf width start hours levelOf look rangeOf coefficient pairCode
+    reachedAt soundNode nodesBelow firstUnsound examine firstBadHour edges shares inside opened visited countAt rangeOver
+    outer innerNodes stopped walk walkEnd lastOr finished dayChange
+computing = tt
+
+-- The numbers marked [P], 1 to 10.
+pub numbers-hold : (c e : ℕ) → Holds (numbers c e)
+unfolding computing
+numbers-hold c e = refl
+
+-- Numbers 11 and 12, and the record's sizes.
+pub unmarked-hold : Holds unmarked
+unfolding computing
+unmarked-hold = refl
+
+-- Documents 003 and 004.
+pub outside-hold : Holds outside
+unfolding computing
+outside-hold = refl

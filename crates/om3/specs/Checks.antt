@@ -1,0 +1,24 @@
+-- What a check of a call says, and several checks in their order. Assumes nothing.
+--
+--   Check          a check passes, or refuses the call
+--   refuseIf b r   the check that refuses by r exactly when b is true
+--   inOrder cs     the first check of a list that refuses decides; where all pass, the call is taken
+use mathlib.Core.Bool.{Bool, true, false}
+use mathlib.Core.List.{List, [], _∷_}
+use Rattle.words.specs.declared.Refusal.{Refusal}
+
+pub data Check : Type 0 where
+  passes : Check
+  refuses : Refusal → Check
+
+abbrev pub refuseIf : Bool → Refusal → Check
+refuseIf true r = refuses r
+refuseIf false r = passes
+
+abbrev pub andThen : Check → Check → Check
+andThen passes next = next
+andThen (refuses r) next = refuses r
+
+abbrev pub inOrder : List Check → Check
+inOrder [] = passes
+inOrder (c ∷ cs) = andThen c (inOrder cs)

@@ -1,0 +1,115 @@
+-- Document 01, "The table": going down, from node 1 to the hours, in a table of l levels. Assumes nothing.
+--
+--   leftLow a d, rightLow a d     lows of the halves of a node with low a and low detail d
+--   leftHigh a d, rightHigh a d   highs of the halves of a node with high a and high detail d
+--   leftHalf, rightHalf           ranges of the halves of a node with a range and two details, marks included
+--   firstOfPair, secondOfPair     ranges of the two hours of a pair with a range and a code
+--   reached l t v                 the range reached at node v
+--   turnedBack l n t              what the n hours come out as
+use mathlib.Core.Bool.{Bool, cond}
+use mathlib.Core.List.{List, map}
+use Prim.Native.Nat.{ℕ, zero, suc, _+_, _-_, _*_, _/_, _%_, _^_}
+use lib.Dec.{eqb}
+use lib.IntN.{ℤ, pos, _+ℤ_, _-ℤ_}
+use lib.Signed.{leZ}
+use lib.ListN.{getD}
+use Rattle.signed.specs.Choice.{isZ}
+use Rattle.words.specs.Constants.{leftMark, rightMark}
+use Rattle.words.specs.Said.{lowOf}
+use Rattle.words.specs.declared.NodeId.{NodeId}
+use Rattle.words.specs.declared.Range.{Range}
+use Rattle.words.specs.declared.Range.the-variants.{Empty, Held}
+use Rattle.om3.specs.Lists.{upFrom}
+use Rattle.om3.specs.Series.{isGap}
+use Rattle.om3.specs.Nodes.{Node, number, isPair}
+use Rattle.om3.specs.Table.{Table}
+
+-- If D ≤ 0 the left low is A and the right low A − D; else the right low is A and the left low A + D. [table 10]
+-- Deviation: document 004's equation (3) prints A − D for the left low; only A + D undoes its equation (1).
+abbrev pub leftLow : ℤ → ℤ → ℤ
+leftLow a d = cond (leZ d (pos 0)) a (a +ℤ d)
+
+abbrev pub rightLow : ℤ → ℤ → ℤ
+rightLow a d = cond (leZ d (pos 0)) (a -ℤ d) a
+
+-- If D ≥ 0 the left high is A and the right high A − D; else the right high is A and the left high A + D. [table 11]
+abbrev pub leftHigh : ℤ → ℤ → ℤ
+leftHigh a d = cond (leZ (pos 0) d) a (a +ℤ d)
+
+abbrev pub rightHigh : ℤ → ℤ → ℤ
+rightHigh a d = cond (leZ (pos 0) d) (a -ℤ d) a
+
+-- The left half takes the whole range at the mark of the left, is empty at that of the right, and else goes down by the
+-- low detail d and the high detail e. Halves of an empty node are empty. [table 5, 10, 11]
+abbrev pub leftHalf : Range → ℤ → ℤ → Range
+leftHalf Empty d e = Empty
+leftHalf (Held a b) d e =
+    cond (isZ leftMark d) (Held a b)
+    (cond (isZ rightMark d) Empty
+    (Held (leftLow a d) (leftHigh b e)))
+
+abbrev pub rightHalf : Range → ℤ → ℤ → Range
+rightHalf Empty d e = Empty
+rightHalf (Held a b) d e =
+    cond (isZ rightMark d) (Held a b)
+    (cond (isZ leftMark d) Empty
+    (Held (rightLow a d) (rightHigh b e)))
+
+-- The first hour of a pair is the high at code 0 and the low at codes 1 and 2; at any other code it is a gap. [table 6]
+abbrev pub firstOfPair : Range → ℕ → Range
+firstOfPair Empty c = Empty
+firstOfPair (Held a b) c = cond (eqb c 0) (Held b b) (cond (eqb c 1) (Held a a) (cond (eqb c 2) (Held a a) Empty))
+
+-- The second hour is the low at codes 0 and 3 and the high at code 1; at any other code it is a gap. [table 6]
+abbrev pub secondOfPair : Range → ℕ → Range
+secondOfPair Empty c = Empty
+secondOfPair (Held a b) c = cond (eqb c 0) (Held a a) (cond (eqb c 1) (Held b b) (cond (eqb c 3) (Held a a) Empty))
+
+-- The coefficient at a place. What lies past the end is never asked for; it reads 0.
+abbrev pub coefficientAt : Table → ℕ → ℤ
+coefficientAt t p = getD (t .coefficients) p (pos 0)
+
+-- The details of node i stand at places 2i and 2i + 1. [table 3]
+abbrev pub lowDetailAt : Table → NodeId → ℤ
+lowDetailAt t i = coefficientAt t (2 * i .0)
+
+abbrev pub highDetailAt : Table → NodeId → ℤ
+highDetailAt t i = coefficientAt t (2 * i .0 + 1)
+
+-- The code of pair i stands at place i − P/2. [table 6]
+abbrev pub codeAt : ℕ → Table → NodeId → ℕ
+codeAt l t i = getD (t .codes) (i .0 - 2 ^ l / 2) 0
+
+-- Node 1 is empty if its low is the mark, and else has the low and the high of places 0 and 1. [table 2]
+abbrev pub rootRange : ℤ → ℤ → Range
+rootRange a b = cond (isGap a) Empty (Held a b)
+
+module _ (l : ℕ) (t : Table) where
+  -- From the range of node v to those of its halves.
+  abbrev pub leftOf : Node → Range → Range
+  leftOf v r =
+      cond (isPair l v)
+      (firstOfPair r (codeAt l t (number v)))
+      (leftHalf r (lowDetailAt t (number v)) (highDetailAt t (number v)))
+
+  abbrev pub rightOf : Node → Range → Range
+  rightOf v r =
+      cond (isPair l v)
+      (secondOfPair r (codeAt l t (number v)))
+      (rightHalf r (lowDetailAt t (number v)) (highDetailAt t (number v)))
+
+  -- The range reached at node k of level j: a left half if k is even, else a right half, of node k/2 of the level
+  -- above.
+  unfoldable pub reachedAt : ℕ → ℕ → Range
+  reachedAt zero k = rootRange (coefficientAt t 0) (coefficientAt t 1)
+  reachedAt (suc j) k =
+      cond (eqb (k % 2) 0)
+      (leftOf (record { level = j; index = k / 2 }) (reachedAt j (k / 2)))
+      (rightOf (record { level = j; index = k / 2 }) (reachedAt j (k / 2)))
+
+  abbrev pub reached : Node → Range
+  reached v = reachedAt (v .level) (v .index)
+
+  -- Hour t is node t of level l; an empty one is a gap. [hours 9]
+  unfoldable pub turnedBack : ℕ → List ℤ
+  turnedBack n = map (λ k. lowOf (reachedAt l k)) (upFrom 0 n)

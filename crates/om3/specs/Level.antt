@@ -1,0 +1,31 @@
+-- Document 01, "One level, single coefficients": one level's details. Assumes nothing.
+--
+--   Stretch           places from `from` up to, not including, from + size
+--   levelStretch      the places of level j's details in a table lent as coefficients for n hours
+--   levelPart         that stretch of the lent coefficients itself
+use mathlib.Core.Bool.{Bool, cond, not, _&&_, _||_}
+use mathlib.Core.List.{List}
+use Prim.Native.Nat.{ℕ, _+_, _*_, _^_}
+use lib.Dec.{leb, ltb, eqb}
+use lib.IntN.{ℤ}
+use lib.ListN.{length, take, drop}
+use Rattle.words.specs.Constants.{largestHours}
+use Rattle.om3.specs.Series.{levels, P}
+use Rattle.om3.specs.Refusals.{short}
+
+pub record Stretch : Type 0 where
+  pub from : ℕ
+  pub size : ℕ
+
+-- A level is there for j up to l − 2, if n is 1 to 16,384 and the coefficients are not too short. [level 1, 2]
+abbrev pub hasLevel : (n j lent : ℕ) → Bool
+hasLevel n j lent = not (eqb n 0 || ltb largestHours n || short lent (P n)) && leb (j + 2) (levels n)
+
+-- Places 2·2^j to 4·2^j − 1; any other level, and the causes of 1 and 3, give a stretch of length 0. [level 1, 2]
+unfoldable pub levelStretch : (n j lent : ℕ) → Stretch
+levelStretch n j lent =
+    cond (hasLevel n j lent) (record { from = 2 * 2 ^ j; size = 2 * 2 ^ j }) (record { from = 0; size = 0 })
+
+abbrev pub levelPart : (n j : ℕ) → List ℤ → List ℤ
+levelPart n j coefficients =
+    take (levelStretch n j (length coefficients) .size) (drop (levelStretch n j (length coefficients) .from) coefficients)

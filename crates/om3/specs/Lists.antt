@@ -1,0 +1,31 @@
+-- Lists of hours, places and nodes, as the definitions look through them. Assumes nothing.
+--
+--   upFrom f c       the c numbers f, f + 1, .., up to, not including, f + c
+--   any p xs         whether some element passes the test p
+--   every p xs       whether each element passes it; of no elements each does
+--   keep p xs        the elements that pass it, in their order
+--   firstFrom p j f  the least of j, j + 1, .., j + f that passes it, and j + f where none of them does
+use mathlib.Core.Bool.{Bool, true, false, cond, _&&_, _||_}
+use mathlib.Core.List.{List, [], _∷_}
+use Prim.Native.Nat.{ℕ, zero, suc, _+_}
+
+unfoldable pub upFrom : ℕ → ℕ → List ℕ
+upFrom f zero = []
+upFrom f (suc c) = f ∷ upFrom (f + 1) c
+
+module _ {A : Type 0} (p : A → Bool) where
+  unfoldable pub any : List A → Bool
+  any [] = false
+  any (x ∷ xs) = p x || any xs
+
+  unfoldable pub every : List A → Bool
+  every [] = true
+  every (x ∷ xs) = p x && every xs
+
+  unfoldable pub keep : List A → List A
+  keep [] = []
+  keep (x ∷ xs) = cond (p x) (x ∷ keep xs) (keep xs)
+
+unfoldable pub firstFrom : (ℕ → Bool) → ℕ → ℕ → ℕ
+firstFrom p j zero = j
+firstFrom p j (suc f) = cond (p j) j (firstFrom p (suc j) f)

@@ -1,0 +1,167 @@
+-- Document 01, "Numbers to hold to": questions with the answers that document 01 gives. That the definitions answer
+-- so is proved in proofs/Numbers. Assumes nothing.
+--
+--   Question, Reply   what is asked; what is replied
+--   replyTo q         what the definitions reply
+--   numbers c e       the numbers marked [P], 1 to 10; c and e are the codes that 9 and 10 leave open
+--   unmarked          numbers 11 and 12, and the sizes of the house record
+--   outside           worked examples of documents 003 and 004
+use mathlib.Core.List.{List, [], _∷_, _++_}
+use Prim.Native.Nat.{ℕ, _+_, _-_, _*_}
+use lib.IntN.{ℤ, pos, negℤ}
+use lib.ListN.{length, replicate}
+use Rattle.words.specs.Constants.{gap}
+use Rattle.words.specs.Said.{Said, refusing, taking, saidOfFinished, saidOfStopped, saidOfEdges, saidOfDayChange}
+use Rattle.om3.specs.Series.{levels}
+use Rattle.om3.specs.Table.{Table, tableOf}
+use Rattle.om3.specs.Checks.{Check, passes, refuses}
+use Rattle.om3.specs.Refusals.{making, turningBack}
+use Rattle.om3.specs.Record.{recordLength, recordSize}
+use Rattle.om3.specs.Columns.{edges}
+use Rattle.om3.specs.Stopped.{stopped}
+use Rattle.om3.specs.Finished.{finished}
+use Rattle.om3.specs.Days.{dayChange}
+
+pub data Question : Type 0 where
+  -- the table of n hours that hold s; the checks of making it
+  tableFor : (n : ℕ) (s : List ℤ) → Question
+  makingFor : (n : ℕ) (s : List ℤ) → Question
+  -- the checks of turning back, with room for n hours
+  turningFor : (n : ℕ) (coefficients : List ℤ) (codes : List ℕ) → Question
+  -- in the table of n hours that hold s: a finished column, a column at depth d, the change of a day
+  finishedFor : (n : ℕ) (s : List ℤ) (a b w k : ℕ) → Question
+  stoppedFor : (n : ℕ) (s : List ℤ) (a b w k d : ℕ) → Question
+  dayFor : (n : ℕ) (s : List ℤ) (d : ℕ) → Question
+  -- the edges of a column
+  edgesFor : (n a b w k : ℕ) → Question
+  -- the record's length field and its size
+  sizeFor : (n : ℕ) → Question
+
+pub data Reply : Type 0 where
+  table : List ℤ → List ℕ → Reply
+  says : Said → Reply
+
+abbrev tableFrom : ℕ → List ℤ → Table
+tableFrom n s = tableOf (levels n) n s
+
+abbrev saidOfCheck : Check → Said
+saidOfCheck passes = taking []
+saidOfCheck (refuses why) = refusing why
+
+-- The reply by the definitions.
+abbrev pub replyTo : Question → Reply
+replyTo (tableFor n s) = table (tableFrom n s .coefficients) (tableFrom n s .codes)
+replyTo (makingFor n s) = says (saidOfCheck (making n s (tableFrom n s)))
+replyTo (turningFor n cs ks) = says (saidOfCheck (turningBack n (record { coefficients = cs; codes = ks }) n))
+replyTo (finishedFor n s a b w k) = says (saidOfFinished (finished n (tableFrom n s) a b w k))
+replyTo (stoppedFor n s a b w k d) = says (saidOfStopped (stopped n (tableFrom n s) a b w k d))
+replyTo (dayFor n s d) = says (saidOfDayChange (dayChange n (tableFrom n s) d))
+replyTo (edgesFor n a b w k) = says (saidOfEdges (edges n a b w k))
+replyTo (sizeFor n) = says (taking (pos (recordLength n) ∷ pos (recordSize n) ∷ []))
+
+pub record Case : Type 0 where
+  pub question : Question
+  pub reply : Reply
+
+infix 20 _is_
+abbrev _is_ : Question → Reply → Case
+_is_ q r = record { question = q; reply = r }
+
+-- Grams, and grams below zero.
+abbrev g : ℕ → ℤ
+g x = pos x
+
+abbrev -g : ℕ → ℤ
+-g x = negℤ (pos x)
+
+-- A column as the printer prints it, with the hours of its first and its last reading.
+abbrev printed : (firstHour lastHour first last low high count : ℕ) → Reply
+printed t u x y low high count =
+    says (taking (pos count ∷ pos t ∷ g x ∷ pos u ∷ g y ∷ g low ∷ g high ∷ []))
+
+-- A column at a depth, with both ranges; without the inner one.
+abbrev ranges : (outerLow outerHigh innerLow innerHigh count : ℕ) → Reply
+ranges a b c d count = says (taking (pos count ∷ g a ∷ g b ∷ g c ∷ g d ∷ []))
+
+abbrev outerAlone : (outerLow outerHigh count : ℕ) → Reply
+outerAlone a b count = says (taking (pos count ∷ g a ∷ g b ∷ gap ∷ gap ∷ []))
+
+abbrev refused : (number place : ℕ) → Reply
+refused m p = says (record { number = m; place = p; values = [] })
+
+-- The hours from a up to, not including, b.
+abbrev hoursOf : (a b : ℕ) → Reply
+hoursOf a b = says (taking (pos a ∷ pos b ∷ []))
+
+-- The printer's seven hours. [printer 9]
+abbrev pub seven : List ℤ
+seven = g 41200 ∷ g 41350 ∷ gap ∷ g 40900 ∷ g 32760 ∷ g 32790 ∷ gap ∷ []
+
+-- Numbers 1 to 10. [numbers 1, 2, 3, 4, 5, 6, 7, 8, 9, 10, 11, 12, 13] [statements 4]
+abbrev pub numbers : (c e : ℕ) → List Case
+numbers c e =
+    -- 1
+    (tableFor 1 (g 500 ∷ []) is table (g 500 ∷ g 500 ∷ []) (2 ∷ []))
+    -- 2
+    ∷ (tableFor 2 (g 7 ∷ g 7 ∷ []) is table (g 7 ∷ g 7 ∷ []) (0 ∷ []))
+    ∷ (tableFor 2 (g 7 ∷ g 9 ∷ []) is table (g 7 ∷ g 9 ∷ []) (1 ∷ []))
+    ∷ (tableFor 2 (g 9 ∷ g 7 ∷ []) is table (g 7 ∷ g 9 ∷ []) (0 ∷ []))
+    -- 3
+    ∷ (tableFor 3 (gap ∷ gap ∷ gap ∷ []) is
+    table (g 2000003 ∷ g 2000003 ∷ g 2000003 ∷ g 2000003 ∷ []) (4 ∷ 4 ∷ []))
+    -- 4
+    ∷ (tableFor 7 seven is
+    table (g 32760 ∷ g 41350 ∷ g 8140 ∷ g 8560 ∷ g 300 ∷ g 450 ∷ g 2000001 ∷ g 2000001 ∷ []) (1 ∷ 3 ∷ 1 ∷ 4 ∷ []))
+    -- 5
+    ∷ (finishedFor 7 seven 0 7 3 0 is printed 0 1 41200 41350 41200 41350 9)
+    ∷ (finishedFor 7 seven 0 7 3 1 is printed 3 4 40900 32760 32760 40900 (4 * 3 - 1))
+    ∷ (finishedFor 7 seven 0 7 3 2 is printed 5 5 32790 32790 32790 32790 7)
+    -- 6
+    ∷ (stoppedFor 7 seven 0 7 3 0 0 is outerAlone 32760 41350 1)
+    ∷ (stoppedFor 7 seven 0 7 3 0 1 is outerAlone 40900 41350 3)
+    ∷ (stoppedFor 7 seven 0 7 3 0 2 is ranges 40900 41350 41200 41350 5)
+    ∷ (stoppedFor 7 seven 0 7 3 0 3 is ranges 41200 41350 41200 41350 7)
+    -- 7
+    ∷ (tableFor 4 (-g 1000000 ∷ -g 1000000 ∷ g 1000000 ∷ g 1000000 ∷ []) is
+    table (-g 1000000 ∷ g 1000000 ∷ -g 2000000 ∷ -g 2000000 ∷ []) (0 ∷ 0 ∷ []))
+    -- 8
+    ∷ (edgesFor 2 0 2 4 1 is hoursOf 1 1)
+    ∷ (edgesFor 2 0 2 4 3 is hoursOf 2 2)
+    -- 9
+    ∷ (turningFor 2 (g 5 ∷ g 4 ∷ []) (c ∷ []) is refused 4 0)
+    ∷ (turningFor 2 (g 5 ∷ g 5 ∷ []) (1 ∷ []) is refused 4 1)
+    -- 10
+    ∷ (turningFor 4 (g 10 ∷ g 20 ∷ -g 15 ∷ g 0 ∷ []) (c ∷ e ∷ []) is refused 4 1)
+    ∷ []
+
+-- Day 0 runs from 40000 to 40600, day 1 is 41000, 41100.
+abbrev days : List ℤ
+days = g 40000 ∷ replicate 22 gap ++ g 40600 ∷ g 41000 ∷ g 41100 ∷ []
+
+-- Numbers 11 and 12, and the record's sizes. [numbers 14, 15, 16, 17, 18] [record 7]
+abbrev pub unmarked : List Case
+unmarked =
+    -- 11
+    (makingFor 3 (g 0 ∷ -g 1000000 ∷ g 1000001 ∷ []) is refused 2 2)
+    ∷ (edgesFor 16385 0 1 1 0 is refused 1 0)
+    ∷ (stoppedFor 7 seven 0 7 3 0 4 is refused 7 0)
+    ∷ (edgesFor 7 0 7 4096 4095 is hoursOf 7 7)
+    ∷ (edgesFor 7 0 7 4097 0 is refused 6 0)
+    -- 12
+    ∷ (dayFor 26 days 0 is says (taking (g 600 ∷ [])))
+    ∷ (dayFor 26 days 1 is says (taking (g 100 ∷ [])))
+    ∷ (dayFor 26 days 2 is refused 5 0)
+    -- the house record
+    ∷ (sizeFor 2 is says (taking (pos 10 ∷ pos 14 ∷ [])))
+    ∷ (sizeFor 16384 is says (taking (pos 57347 ∷ pos 57351 ∷ [])))
+    ∷ []
+
+-- Document 003's Figure 3, and document 004's cut of 64 hours in three columns. [columns 3]
+abbrev pub outside : List Case
+outside =
+    (tableFor 4 (g 7 ∷ g 8 ∷ g 10 ∷ g 6 ∷ []) is table (g 6 ∷ g 10 ∷ g 1 ∷ -g 2 ∷ []) (1 ∷ 0 ∷ []))
+    ∷ (tableFor 4 (g 4 ∷ -g 3 ∷ g 0 ∷ g 1 ∷ []) is table (-g 3 ∷ g 4 ∷ -g 3 ∷ g 3 ∷ []) (0 ∷ 1 ∷ []))
+    ∷ (edgesFor 64 0 64 3 0 is hoursOf 0 22)
+    ∷ (edgesFor 64 0 64 3 1 is hoursOf 22 43)
+    ∷ (edgesFor 64 0 64 3 2 is hoursOf 43 64)
+    ∷ []

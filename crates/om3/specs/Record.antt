@@ -1,0 +1,119 @@
+-- Document 01, "The house record", byte by byte, with the checks of writing, reading, opening and asking. Assumes
+-- nothing.
+--
+--   bytesOf w x, numberFrom bs      x in w bytes, big-endian; the number that bytes spell
+--   threeBytes z, signedFrom bs     z in three bytes, two's complement; the number that three bytes spell
+--   recordLength n, recordSize n    the length field for n hours; how many bytes the whole record has
+--   recordOf n t                    the record of a table
+--   hoursIn r, tableIn r            the hours and the table that the bytes r of a record state
+--   writing, unpacking, opening     the checks of writing, reading and opening, in order
+--   opened r, asked r p             what opening answers, and asking for the coefficient at place p
+use mathlib.Core.Bool.{Bool, cond, not, _||_}
+use mathlib.Core.List.{List, [], _∷_, _++_, map, flatMap}
+use Prim.Native.Nat.{ℕ, zero, suc, _+_, _-_, _*_, _/_, _%_, _^_}
+use lib.Dec.{leb, ltb, eqb}
+use lib.IntN.{ℤ, pos, negsuc, _-ℤ_}
+use lib.ListN.{length, take, drop}
+use Rattle.words.specs.Constants.{version}
+use Rattle.words.specs.declared.Refusal.the-variants.{CutShort, BadVersion, BadLength, BytesAfter, BadPlace}
+use Rattle.words.specs.declared.Opening.{Opening}
+use Rattle.words.specs.declared.Asking.{Asking}
+use Rattle.om3.specs.Lists.{upFrom}
+use Rattle.om3.specs.Series.{P}
+use Rattle.om3.specs.Table.{Table}
+use Rattle.om3.specs.Checks.{Check, passes, refuses, refuseIf, inOrder}
+use Rattle.om3.specs.Refusals.{checkHours, checkRoom, short, tableShort, examineTable}
+
+-- Big-endian: the highest byte first. [record 1]
+unfoldable pub bytesOf : ℕ → ℕ → List ℕ
+bytesOf zero x = []
+bytesOf (suc w) x = x / 256 ^ w % 256 ∷ bytesOf w x
+
+unfoldable pub numberFrom : List ℕ → ℕ
+numberFrom [] = 0
+numberFrom (b ∷ bs) = b * 256 ^ length bs + numberFrom bs
+
+-- Two's complement of three bytes: a negative number stands as that number plus 2^24. [record 5]
+abbrev pub threeBytes : ℤ → List ℕ
+threeBytes (pos m) = bytesOf 3 m
+threeBytes (negsuc m) = bytesOf 3 (2 ^ 24 - suc m)
+
+unfoldable pub signedFrom : List ℕ → ℤ
+signedFrom bs = cond (ltb (numberFrom bs) (2 ^ 23)) (pos (numberFrom bs)) (pos (numberFrom bs) -ℤ pos (2 ^ 24))
+
+-- The length of what follows the length field: 3 + 3P + P/2. [record 2]
+abbrev pub recordLength : ℕ → ℕ
+recordLength n = 3 + 3 * P n + P n / 2
+
+abbrev pub recordSize : ℕ → ℕ
+recordSize n = 4 + recordLength n
+
+-- Four bytes of length, one of version, two of n, the coefficients, and the codes directly after the last. [record 2,
+-- 3, 4, 5, 6]
+unfoldable pub recordOf : ℕ → Table → List ℕ
+recordOf n t =
+    bytesOf 4 (recordLength n) ++ bytesOf 1 version ++ bytesOf 2 n
+    ++ flatMap threeBytes (take (P n) (t .coefficients)) ++ take (P n / 2) (t .codes)
+
+-- The w bytes from place p on.
+abbrev pub bytesAt : List ℕ → ℕ → ℕ → List ℕ
+bytesAt r p w = take w (drop p r)
+
+-- What the fields of a record state. [record 2, 3, 4]
+abbrev pub lengthIn : List ℕ → ℕ
+lengthIn r = numberFrom (bytesAt r 0 4)
+
+abbrev pub versionIn : List ℕ → ℕ
+versionIn r = numberFrom (bytesAt r 4 1)
+
+abbrev pub hoursIn : List ℕ → ℕ
+hoursIn r = numberFrom (bytesAt r 5 2)
+
+-- The coefficient at place p, straight from the bytes. [record 5] [level 3]
+abbrev pub coefficientIn : List ℕ → ℕ → ℤ
+coefficientIn r p = signedFrom (bytesAt r (7 + 3 * p) 3)
+
+-- The whole table. [record 5, 6]
+unfoldable pub tableIn : List ℕ → Table
+tableIn r = record {
+  coefficients = map (coefficientIn r) (upFrom 0 (P (hoursIn r)));
+  codes = bytesAt r (7 + 3 * P (hoursIn r)) (P (hoursIn r) / 2);
+}
+
+-- Writing a record: 1, 3, 4, with `lent` bytes lent for it. [refusals 15, 18]
+abbrev pub writing : ℕ → Table → ℕ → Check
+writing n t lent =
+    inOrder (checkHours n ∷ checkRoom (tableShort n t || short lent (recordSize n)) ∷ examineTable n t ∷ [])
+
+-- Under 7 bytes 8; then 9, 1, 10; fewer bytes than stated 8; more 11. [refusals 8, 9, 10, 11, 19]
+abbrev pub opening : List ℕ → Check
+opening r =
+    inOrder
+    (refuseIf (ltb (length r) 7) CutShort
+    ∷ refuseIf (not (eqb (versionIn r) version)) BadVersion
+    ∷ checkHours (hoursIn r)
+    ∷ refuseIf (not (eqb (lengthIn r) (recordLength (hoursIn r)))) BadLength
+    ∷ refuseIf (ltb (length r) (4 + lengthIn r)) CutShort
+    ∷ refuseIf (ltb (4 + lengthIn r) (length r)) BytesAfter
+    ∷ [])
+
+-- Reading: the checks of opening, then 3 and 4. The lent buffers are to hold the table. [refusals 19]
+abbrev pub unpacking : List ℕ → Table → Check
+unpacking r lent =
+    inOrder (opening r ∷ checkRoom (tableShort (hoursIn r) lent) ∷ examineTable (hoursIn r) (tableIn r) ∷ [])
+
+-- Opening makes the reading checks except 3 and 4, and answers n and P. [level 3]
+abbrev pub openedBy : Check → List ℕ → Opening
+openedBy passes r = Opening.Record (hoursIn r) (P (hoursIn r))
+openedBy (refuses why) r = Opening.Refused why
+
+unfoldable pub opened : List ℕ → Opening
+opened r = openedBy (opening r) r
+
+-- A place from P on gets 13. [level 3] [refusals 13]
+abbrev pub askedBy : Check → List ℕ → ℕ → Asking
+askedBy passes r p = Asking.Coefficient (coefficientIn r p)
+askedBy (refuses why) r p = Asking.Refused why
+
+unfoldable pub asked : List ℕ → ℕ → Asking
+asked r p = askedBy (inOrder (opening r ∷ refuseIf (leb (P (hoursIn r)) p) BadPlace ∷ [])) r p

@@ -1,0 +1,66 @@
+-- The lesser and the greater of two numbers, and the tests of equality, in their parts. Assumes nothing.
+use mathlib.Core.Path.{_≡_, refl, ap}
+use mathlib.Core.Bool.{Bool, true, false, cond, _&&_}
+use Prim.Native.Nat.{ℕ, _+_, _<_, _^_, min, max}
+use native.Mathlib.Omega.{arith}
+use lib.IntN.{ℤ, pos, negsuc}
+use lib.Signed.{leZ}
+use mir.Syntax.{w32}
+use mir.Val.{SFits, ofZ}
+use borrow.Author.Tests.{eqb-true, eq-eqb, ne-eqb}
+use Rattle.signed.specs.Choice.{minZ, maxZ, eqZ, isZ}
+use Rattle.signed.proofs.Parts.{up, dn, ≡-parts, parts-≡, leZ-true, leZ-false, true-leZ, clash}
+
+pub min-parts : (a b : ℤ) → up (minZ a b) + (dn a + dn b) ≡ min (up a + dn b) (up b + dn a) + dn (minZ a b)
+min-parts a b = by (leZ a b) refl
+  where
+    by : (t : Bool) → leZ a b ≡ t
+        → up (cond t a b) + (dn a + dn b) ≡ min (up a + dn b) (up b + dn a) + dn (cond t a b)
+    by true e = omega (arith, leZ-true)
+    by false e = omega (arith, leZ-false)
+
+pub max-parts : (a b : ℤ) → up (maxZ a b) + (dn a + dn b) ≡ max (up a + dn b) (up b + dn a) + dn (maxZ a b)
+max-parts a b = by (leZ a b) refl
+  where
+    by : (t : Bool) → leZ a b ≡ t
+        → up (cond t b a) + (dn a + dn b) ≡ max (up a + dn b) (up b + dn a) + dn (cond t b a)
+    by true e = omega (arith, leZ-true)
+    by false e = omega (arith, leZ-false)
+
+-- A hypothesis or a goal that a number is the lesser or the greater of two.
+pub ≡-min : (a b : ℤ) {z : ℤ} → z ≡ minZ a b → up z + (dn a + dn b) ≡ min (up a + dn b) (up b + dn a) + dn z
+≡-min a b e = omega (arith, ≡-parts e, min-parts a b)
+
+pub ≡-max : (a b : ℤ) {z : ℤ} → z ≡ maxZ a b → up z + (dn a + dn b) ≡ max (up a + dn b) (up b + dn a) + dn z
+≡-max a b e = omega (arith, ≡-parts e, max-parts a b)
+
+pub min-≡ : (a b : ℤ) {z : ℤ} → up z + (dn a + dn b) ≡ min (up a + dn b) (up b + dn a) + dn z → z ≡ minZ a b
+min-≡ a b h = parts-≡ (omega (arith, min-parts a b))
+
+pub max-≡ : (a b : ℤ) {z : ℤ} → up z + (dn a + dn b) ≡ max (up a + dn b) (up b + dn a) + dn z → z ≡ maxZ a b
+max-≡ a b h = parts-≡ (omega (arith, max-parts a b))
+
+pub isZ-true : (k : ℕ) (z : ℤ) → isZ k z ≡ true → z ≡ pos k
+isZ-true k (pos n) e = ap pos (eqb-true n k e)
+isZ-true k (negsuc n) e = clash e
+
+-- A test of the machine compares bits: of a number that fits they are those of k exactly if it is k.
+pub isZ-yes : (k : ℕ) (z : ℤ) → k < 2 ^ 31 → SFits w32 z → ofZ w32 z ≡ k → isZ k z ≡ true
+isZ-yes k (pos n) h f e = eq-eqb n k e
+isZ-yes k (negsuc n) h f e = absurd (omega (arith, f .sfits))
+
+pub isZ-no : (k : ℕ) (z : ℤ) → (ofZ w32 z ≡ k → ⊥) → isZ k z ≡ false
+isZ-no k (pos n) h = ne-eqb n k h
+isZ-no k (negsuc n) h = refl
+
+-- Two numbers that pass the test of equality are equal, and equal numbers pass it.
+pub eqZ-true : (a b : ℤ) → eqZ a b ≡ true → a ≡ b
+eqZ-true a b e = by (leZ a b) refl (leZ b a) refl e
+  where
+    by : (s : Bool) → leZ a b ≡ s → (t : Bool) → leZ b a ≡ t → (s && t) ≡ true → a ≡ b
+    by true p true q e = parts-≡ (omega (arith, leZ-true a b p, leZ-true b a q))
+    by true p false q e = clash e
+    by false p t q e = clash e
+
+pub true-eqZ : (a b : ℤ) → up a + dn b ≡ up b + dn a → eqZ a b ≡ true
+true-eqZ a b h = rw (true-leZ a b (omega arith), true-leZ b a (omega arith))

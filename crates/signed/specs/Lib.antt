@@ -1,0 +1,2 @@
+-- Choices among signed numbers that definitions of the crates above are written with.
+pub mod Choice

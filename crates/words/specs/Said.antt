@@ -1,0 +1,128 @@
+-- What document 01 says of each case of an answer: the refusal's number and place, or the answer's values. Assumes
+-- nothing.
+--
+--   numberOf r, placeOf r   the number and the place of a refusal
+--   lowOf r, highOf r       the low and the high of a range, 2,000,003 where it is empty
+--   Said                    an answer in document 01's numbers; `saidOf..` gives it for each type of answer
+use mathlib.Core.List.{List, [], _∷_}
+use Prim.Native.Nat.{ℕ}
+use lib.IntN.{ℤ, pos}
+use Rattle.words.specs.Constants.{gap}
+use Rattle.words.specs.declared.Timestamp.{Timestamp}
+use Rattle.words.specs.declared.NodeId.{NodeId}
+use Rattle.words.specs.declared.Range.{Range}
+use Rattle.words.specs.declared.Range.the-variants.{Empty, Held}
+use Rattle.words.specs.declared.Refusal.{Refusal}
+use Rattle.words.specs.declared.Refusal.the-variants.{BadHours, BadReading, ShortBuffer, Unsound, BadWindow}
+use Rattle.words.specs.declared.Refusal.the-variants.{BadColumn, TooDeep, CutShort, BadVersion, BadLength}
+use Rattle.words.specs.declared.Refusal.the-variants.{BytesAfter, BadLine, BadPlace}
+use Rattle.words.specs.declared.Reading.{Reading}
+use Rattle.words.specs.declared.Summary.{Summary}
+use Rattle.words.specs.declared.Answer.{Answer}
+use Rattle.words.specs.declared.Finished.{Finished}
+use Rattle.words.specs.declared.Stopped.{Stopped}
+use Rattle.words.specs.declared.Taking.{Taking}
+use Rattle.words.specs.declared.Edges.{Edges}
+use Rattle.words.specs.declared.DayChange.{DayChange}
+use Rattle.words.specs.declared.Writing.{Writing}
+use Rattle.words.specs.declared.Unpacking.{Unpacking}
+use Rattle.words.specs.declared.Opening.{Opening}
+use Rattle.words.specs.declared.Asking.{Asking}
+
+-- The number of a refusal. [refusals 1, 2, 3, 4, 5, 6, 7, 8, 9, 10, 11, 12, 13]
+abbrev pub numberOf : Refusal → ℕ
+numberOf BadHours = 1
+numberOf (BadReading t) = 2
+numberOf ShortBuffer = 3
+numberOf (Unsound i) = 4
+numberOf BadWindow = 5
+numberOf BadColumn = 6
+numberOf TooDeep = 7
+numberOf CutShort = 8
+numberOf BadVersion = 9
+numberOf BadLength = 10
+numberOf BytesAfter = 11
+numberOf (BadLine i) = 12
+numberOf BadPlace = 13
+
+-- Its place: an hour, a node's number, a line counted from 1, else 0. [refusals 2, 4, 12]
+abbrev pub placeOf : Refusal → ℕ
+placeOf BadHours = 0
+placeOf (BadReading t) = t .0
+placeOf ShortBuffer = 0
+placeOf (Unsound i) = i .0
+placeOf BadWindow = 0
+placeOf BadColumn = 0
+placeOf TooDeep = 0
+placeOf CutShort = 0
+placeOf BadVersion = 0
+placeOf BadLength = 0
+placeOf BytesAfter = 0
+placeOf (BadLine i) = i
+placeOf BadPlace = 0
+
+-- Low and high of a range, both 2,000,003 if it is empty. [table 2]
+abbrev pub lowOf : Range → ℤ
+lowOf Empty = gap
+lowOf (Held low high) = low
+
+abbrev pub highOf : Range → ℤ
+highOf Empty = gap
+highOf (Held low high) = high
+
+-- An answer in document 01's numbers: the refusal's number, 0 where the call is taken; its place; the values. [forms
+-- 14]
+pub record Said : Type 0 where
+  pub number : ℕ
+  pub place : ℕ
+  pub values : List ℤ
+
+abbrev pub refusing : Refusal → Said
+refusing r = record { number = numberOf r; place = placeOf r; values = [] }
+
+abbrev pub taking : List ℤ → Said
+taking vs = record { number = 0; place = 0; values = vs }
+
+-- First hour and reading, last hour and reading, low, high; nothing where there is no reading. [columns 13, 14]
+abbrev pub valuesOf : Answer → List ℤ
+valuesOf Answer.NoReading = []
+valuesOf (Answer.Found s) =
+    pos (s .first .hour .0) ∷ s .first .grams ∷ pos (s .last .hour .0) ∷ s .last .grams ∷ s .low ∷ s .high ∷ []
+
+abbrev pub saidOfFinished : Finished → Said
+saidOfFinished (Finished.Answered answer count) = taking (pos count ∷ valuesOf answer)
+saidOfFinished (Finished.Refused r) = refusing r
+
+abbrev pub saidOfStopped : Stopped → Said
+saidOfStopped (Stopped.Ranges outer inner count) =
+    taking (pos count ∷ lowOf outer ∷ highOf outer ∷ lowOf inner ∷ highOf inner ∷ [])
+saidOfStopped (Stopped.Refused r) = refusing r
+
+abbrev pub saidOfTaking : Taking → Said
+saidOfTaking Taking.Taken = taking []
+saidOfTaking (Taking.Refused r) = refusing r
+
+abbrev pub saidOfEdges : Edges → Said
+saidOfEdges (Edges.Hours from upto) = taking (pos (from .0) ∷ pos (upto .0) ∷ [])
+saidOfEdges (Edges.Refused r) = refusing r
+
+abbrev pub saidOfDayChange : DayChange → Said
+saidOfDayChange DayChange.NoReading = taking []
+saidOfDayChange (DayChange.Grams g) = taking (g ∷ [])
+saidOfDayChange (DayChange.Refused r) = refusing r
+
+abbrev pub saidOfWriting : Writing → Said
+saidOfWriting (Writing.Bytes b) = taking (pos b ∷ [])
+saidOfWriting (Writing.Refused r) = refusing r
+
+abbrev pub saidOfUnpacking : Unpacking → Said
+saidOfUnpacking (Unpacking.Hours n) = taking (pos n ∷ [])
+saidOfUnpacking (Unpacking.Refused r) = refusing r
+
+abbrev pub saidOfOpening : Opening → Said
+saidOfOpening (Opening.Record n p) = taking (pos n ∷ pos p ∷ [])
+saidOfOpening (Opening.Refused r) = refusing r
+
+abbrev pub saidOfAsking : Asking → Said
+saidOfAsking (Asking.Coefficient z) = taking (z ∷ [])
+saidOfAsking (Asking.Refused r) = refusing r
