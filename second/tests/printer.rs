@@ -41,8 +41,8 @@ fn columns_are_a_look_through_the_hours() {
 
 #[test]
 fn columns_without_hours_or_readings() {
-    let expected = "column first last low high nodes\n0 5 5 5 5 4\n1 - - - - 0\n2 - - - - 1\n3 - - - - 0\n";
-    assert_eq!(printed("0 2 4\n5\n-\n"), expected.replace("5 4\n", "5 3\n").replace("2 - - - - 1", "2 - - - - 3"));
+    let expected = "column first last low high nodes\n0 5 5 5 5 3\n1 - - - - 0\n2 - - - - 3\n3 - - - - 0\n";
+    assert_eq!(printed("0 2 4\n5\n-\n"), expected);
     assert_eq!(printed("0 1 1\n-\n"), "column first last low high nodes\n0 - - - - 1\n");
 }
 
@@ -155,7 +155,7 @@ fn is_bad(index: usize, line: &[u8]) -> bool {
     let Ok(text) = std::str::from_utf8(line) else {
         return true;
     };
-    let plain = |text: &str, most| (1..=most).contains(&text.len()) && text.chars().all(|c| ('0'..='9').contains(&c));
+    let plain = |text: &str, most| (1..=most).contains(&text.len()) && text.chars().all(|c| "0123456789".contains(c));
     if index > 0 {
         return text != "-" && !plain(text.strip_prefix('-').unwrap_or(text), 7);
     }

@@ -222,3 +222,16 @@ fn opening_does_not_examine() {
     assert_eq!(read_record(&record, &mut [0; 2], &mut [0]), Err(refusal(4, 0)));
     assert_eq!([0, 1].map(|place| ask(&record, place)), [Ok(5), Ok(4)]);
 }
+
+#[test]
+fn three_bytes_are_twos_complement() {
+    for first in 0..=255 {
+        for rest in [[0, 0], [0, 1], [127, 255], [255, 255]] {
+            let three = [first, rest[0], rest[1]];
+            let record = [&[0, 0, 0, 10, 1, 0, 2][..], &three, &three, &[0]].concat();
+            for place in [0, 1] {
+                assert_eq!(ask(&record, place).map(i64::from), Ok(number_of(&three)), "{three:?}");
+            }
+        }
+    }
+}

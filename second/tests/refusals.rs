@@ -30,9 +30,9 @@ fn lengths<const BUFFERS: usize>(needed: [usize; BUFFERS], short: bool) -> Vec<[
         std::array::from_fn(|other| if other == buffer { needed[other] - by } else { needed[other] + other })
     };
     let mut lengths: Vec<[usize; BUFFERS]> = vec![[0; BUFFERS], needed.map(|needed| needed - 1)];
-    for buffer in 0..BUFFERS {
+    for (buffer, all) in needed.into_iter().enumerate() {
         lengths.push(one_short(buffer, 1));
-        lengths.push(one_short(buffer, needed[buffer]));
+        lengths.push(one_short(buffer, all));
     }
     lengths
 }
@@ -158,8 +158,7 @@ fn reading_a_record() {
         let table = table(false);
         assert_eq!(write_record(7, &table.coefficients, &table.codes, &mut whole), Ok(35));
         if unsound {
-            whole[9] ^= 0xff;
-            whole[8] ^= 0xff;
+            whole[7] = 0x7f;
         }
         whole[3] += u8::from(bad_length);
         whole[4] += u8::from(bad_version);

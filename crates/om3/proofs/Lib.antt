@@ -1,1 +1,24 @@
+-- Why the definitions are right, in reading order.
 pub mod Numbers
+pub mod Tests
+pub mod Lists
+pub mod Levels
+pub mod Nodes
+pub mod Ranges
+pub mod Down
+pub mod Places
+pub mod Reached
+pub mod NodeLists
+pub mod Examined
+pub mod MadeSound
+pub mod SoundDetails
+pub mod SoundCodes
+pub mod SoundTables
+pub mod TurnedBack
+pub mod Agreeing
+pub mod Demand2
+pub mod Making
+pub mod Bytes
+pub mod Edges
+pub mod Intervals
+pub mod Answers

@@ -1,6 +1,6 @@
 -- The definitions answer as document 01 says, by computing them. Assumes nothing.
 use mathlib.Core.Path.{_≡_, refl}
-use mathlib.Core.List.{List, map}
+use mathlib.Core.List.{List, map, flatMap}
 use Prim.Native.Nat.{ℕ}
 use Rattle.om3.specs.Lists.{upFrom, any, every, keep, firstFrom}
 use Rattle.om3.specs.Series.{levels, hourOf}
@@ -10,11 +10,14 @@ use Rattle.om3.specs.Table.{coefficient, pairCode}
 use Rattle.om3.specs.Down.{reachedAt}
 use Rattle.om3.specs.Sound.{soundNode, nodesBelow, firstUnsound, examine}
 use Rattle.om3.specs.Refusals.{firstBadHour}
+use Rattle.om3.specs.Level.{levelStretch}
+use Rattle.om3.specs.Record.{bytesOf, numberFrom, signedFrom, recordOf, asked}
+use Rattle.om3.specs.Record as Record
 use Rattle.om3.specs.Columns.{edges}
 use Rattle.om3.specs.Stopped.{shares, inside, opened, visited, countAt, rangeOver, outer, innerNodes, stopped}
 use Rattle.om3.specs.Finished.{walk, walkEnd, lastOr, finished}
 use Rattle.om3.specs.Days.{dayChange}
-use Rattle.om3.specs.Numbers.{Case, replyTo, numbers, unmarked, outside}
+use Rattle.om3.specs.Numbers.{Case, replyTo, numbers, unmarked, outside, further}
 
 -- Each question of a list is replied to as the list says.
 abbrev pub Holds : List Case → Type 0
@@ -22,8 +25,9 @@ Holds cs = map (λ (c : Case). replyTo (c .question)) cs ≡ map (λ (c : Case).
 
 unfoldable computing : Unit {0}
 unfolding upFrom any every keep firstFrom levels hourOf width start hours levelOf look rangeOf coefficient pairCode
-    reachedAt soundNode nodesBelow firstUnsound examine firstBadHour edges shares inside opened visited countAt rangeOver
-    outer innerNodes stopped walk walkEnd lastOr finished dayChange
+    reachedAt soundNode nodesBelow firstUnsound examine firstBadHour edges shares inside opened visited countAt
+    rangeOver outer innerNodes stopped walk walkEnd lastOr finished dayChange levelStretch bytesOf numberFrom
+    signedFrom recordOf Record.opened asked flatMap
 computing = tt
 
 -- The numbers marked [P], 1 to 10.
@@ -40,3 +44,8 @@ unmarked-hold = refl
 pub outside-hold : Holds outside
 unfolding computing
 outside-hold = refl
+
+-- Where document 01 leaves room or an error comes easily.
+pub further-hold : Holds further
+unfolding computing
+further-hold = refl

@@ -28,4 +28,5 @@ levelStretch n j lent =
 
 abbrev pub levelPart : (n j : ℕ) → List ℤ → List ℤ
 levelPart n j coefficients =
-    take (levelStretch n j (length coefficients) .size) (drop (levelStretch n j (length coefficients) .from) coefficients)
+    let places = levelStretch n j (length coefficients) in
+    take (places .size) (drop (places .from) coefficients)

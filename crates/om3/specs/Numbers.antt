@@ -6,17 +6,20 @@
 --   numbers c e       the numbers marked [P], 1 to 10; c and e are the codes that 9 and 10 leave open
 --   unmarked          numbers 11 and 12, and the sizes of the house record
 --   outside           worked examples of documents 003 and 004
+--   further           where document 01 leaves room or an error comes easily
 use mathlib.Core.List.{List, [], _∷_, _++_}
 use Prim.Native.Nat.{ℕ, _+_, _-_, _*_}
 use lib.IntN.{ℤ, pos, negℤ}
 use lib.ListN.{length, replicate}
 use Rattle.words.specs.Constants.{gap}
 use Rattle.words.specs.Said.{Said, refusing, taking, saidOfFinished, saidOfStopped, saidOfEdges, saidOfDayChange}
+use Rattle.words.specs.Said.{saidOfOpening, saidOfAsking}
 use Rattle.om3.specs.Series.{levels}
 use Rattle.om3.specs.Table.{Table, tableOf}
 use Rattle.om3.specs.Checks.{Check, passes, refuses}
 use Rattle.om3.specs.Refusals.{making, turningBack}
-use Rattle.om3.specs.Record.{recordLength, recordSize}
+use Rattle.om3.specs.Level.{levelPart}
+use Rattle.om3.specs.Record.{recordLength, recordSize, recordOf, opened, asked}
 use Rattle.om3.specs.Columns.{edges}
 use Rattle.om3.specs.Stopped.{stopped}
 use Rattle.om3.specs.Finished.{finished}
@@ -32,14 +35,23 @@ pub data Question : Type 0 where
   finishedFor : (n : ℕ) (s : List ℤ) (a b w k : ℕ) → Question
   stoppedFor : (n : ℕ) (s : List ℤ) (a b w k d : ℕ) → Question
   dayFor : (n : ℕ) (s : List ℤ) (d : ℕ) → Question
+  -- a finished column in any table
+  finishedIn : (n : ℕ) (coefficients : List ℤ) (codes : List ℕ) (a b w k : ℕ) → Question
   -- the edges of a column
   edgesFor : (n a b w k : ℕ) → Question
+  -- the details of level j of a table
+  levelFor : (n j : ℕ) (coefficients : List ℤ) → Question
   -- the record's length field and its size
   sizeFor : (n : ℕ) → Question
+  -- the record of the table of n hours that hold s; what opening bytes answers; asking them for a coefficient
+  recordFor : (n : ℕ) (s : List ℤ) → Question
+  openFor : (bytes : List ℕ) → Question
+  askFor : (bytes : List ℕ) (p : ℕ) → Question
 
 pub data Reply : Type 0 where
   table : List ℤ → List ℕ → Reply
   says : Said → Reply
+  bytes : List ℕ → Reply
 
 abbrev tableFrom : ℕ → List ℤ → Table
 tableFrom n s = tableOf (levels n) n s
@@ -56,6 +68,12 @@ replyTo (turningFor n cs ks) = says (saidOfCheck (turningBack n (record { coeffi
 replyTo (finishedFor n s a b w k) = says (saidOfFinished (finished n (tableFrom n s) a b w k))
 replyTo (stoppedFor n s a b w k d) = says (saidOfStopped (stopped n (tableFrom n s) a b w k d))
 replyTo (dayFor n s d) = says (saidOfDayChange (dayChange n (tableFrom n s) d))
+replyTo (finishedIn n cs ks a b w k) =
+    says (saidOfFinished (finished n (record { coefficients = cs; codes = ks }) a b w k))
+replyTo (levelFor n j cs) = says (taking (levelPart n j cs))
+replyTo (recordFor n s) = bytes (recordOf n (tableFrom n s))
+replyTo (openFor r) = says (saidOfOpening (opened r))
+replyTo (askFor r p) = says (saidOfAsking (asked r p))
 replyTo (edgesFor n a b w k) = says (saidOfEdges (edges n a b w k))
 replyTo (sizeFor n) = says (taking (pos (recordLength n) ∷ pos (recordSize n) ∷ []))
 
@@ -164,4 +182,46 @@ outside =
     ∷ (edgesFor 64 0 64 3 0 is hoursOf 0 22)
     ∷ (edgesFor 64 0 64 3 1 is hoursOf 22 43)
     ∷ (edgesFor 64 0 64 3 2 is hoursOf 43 64)
+    ∷ []
+
+-- Hours that hold 1, 2, .., 8, as coefficients; their codes are 1, 1, 1, 1.
+abbrev eight : List ℤ
+eight = g 1 ∷ g 8 ∷ -g 4 ∷ -g 4 ∷ -g 2 ∷ -g 2 ∷ -g 2 ∷ -g 2 ∷ []
+
+-- One reading, at hour 12 of 16, as coefficients; its codes are 4, 4, 4, 4, 4, 4, 2, 4.
+abbrev late : List ℤ
+late =
+    g 5 ∷ g 5 ∷ g 2000002 ∷ g 2000002 ∷ gap ∷ gap ∷ g 2000002 ∷ g 2000002 ∷ gap ∷ gap ∷ gap ∷ gap ∷ gap ∷ gap
+    ∷ g 2000001 ∷ g 2000001 ∷ []
+
+-- One hour of −500 grams: 14 bytes.
+abbrev fourteen : List ℕ
+fourteen = 0 ∷ 0 ∷ 0 ∷ 10 ∷ 1 ∷ 0 ∷ 1 ∷ 255 ∷ 254 ∷ 12 ∷ 255 ∷ 254 ∷ 12 ∷ 2 ∷ []
+
+abbrev pub further : List Case
+further =
+    -- the first hour of a column is a gap: its first reading is a later one [errors 3]
+    (finishedFor 4 (gap ∷ g 5 ∷ g 6 ∷ g 7 ∷ []) 0 4 1 0 is printed 1 3 5 7 5 7 5)
+    -- a column without an hour: no reading, count 0 [columns 5]
+    ∷ (finishedFor 4 (gap ∷ g 5 ∷ g 6 ∷ g 7 ∷ []) 1 2 4 1 is says (taking (pos 0 ∷ [])))
+    -- all below the left half before the right half: pair 4 before node 3 [sound 6]
+    ∷ (turningFor 8 (g 1 ∷ g 8 ∷ -g 4 ∷ -g 4 ∷ -g 2 ∷ -g 2 ∷ gap ∷ -g 2 ∷ []) (9 ∷ 1 ∷ 1 ∷ 1 ∷ []) is refused 4 4)
+    -- one mark alone, and code 2 with low < high, are unsound [sound 3, 4]
+    ∷ (turningFor 4 (g 5 ∷ g 5 ∷ g 2000001 ∷ g 0 ∷ []) (0 ∷ 4 ∷ []) is refused 4 1)
+    ∷ (turningFor 2 (g 5 ∷ g 6 ∷ []) (2 ∷ []) is refused 4 1)
+    -- opened nodes are examined before the walk to the first reading: pair 7 before pair 4 [columns 16]
+    ∷ (finishedIn 8 eight (9 ∷ 1 ∷ 1 ∷ 9 ∷ []) 0 7 1 0 is refused 4 7)
+    -- pairs between the two walks are not examined [columns 18]
+    ∷ (finishedIn 8 eight (1 ∷ 9 ∷ 9 ∷ 1 ∷ []) 0 8 1 0 is printed 0 7 1 8 1 8 7)
+    -- a reading at hour 12 of a series of 9 hours is found at its pair [sound 4]
+    ∷ (turningFor 9 late (4 ∷ 4 ∷ 4 ∷ 4 ∷ 4 ∷ 4 ∷ 2 ∷ 4 ∷ []) is refused 4 14)
+    -- level 1 of the printer's seven hours; there is no level 2 of details [level 1, 2]
+    ∷ (levelFor 7 1 (tableFrom 7 seven .coefficients) is says (taking (g 300 ∷ g 450 ∷ g 2000001 ∷ g 2000001 ∷ [])))
+    ∷ (levelFor 7 2 (tableFrom 7 seven .coefficients) is says (taking []))
+    -- the house record byte by byte [record 1, 2, 3, 4, 5, 6]
+    ∷ (recordFor 1 (-g 500 ∷ []) is bytes fourteen)
+    ∷ (openFor fourteen is says (taking (pos 1 ∷ pos 2 ∷ [])))
+    ∷ (openFor (fourteen ++ 0 ∷ []) is refused 11 0)
+    ∷ (askFor fourteen 1 is says (taking (-g 500 ∷ [])))
+    ∷ (askFor fourteen 2 is refused 13 0)
     ∷ []

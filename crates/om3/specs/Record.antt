@@ -48,8 +48,8 @@ recordLength n = 3 + 3 * P n + P n / 2
 abbrev pub recordSize : ℕ → ℕ
 recordSize n = 4 + recordLength n
 
--- Four bytes of length, one of version, two of n, the coefficients, and the codes directly after the last. [record 2,
--- 3, 4, 5, 6]
+-- Four bytes of length, one of version, two of n, the coefficients, and the codes directly after the last.
+-- [record 2, 3, 4, 5, 6]
 unfoldable pub recordOf : ℕ → Table → List ℕ
 recordOf n t =
     bytesOf 4 (recordLength n) ++ bytesOf 1 version ++ bytesOf 2 n

@@ -33,17 +33,18 @@ above v = record { level = v .level - 1; index = v .index / 2 }
 abbrev pub hasReading : ℕ → Table → Node → Bool
 hasReading l t v = not (isEmpty (reached l t v))
 
+-- It shares an hour with the column; it lies wholly inside it.
+unfoldable pub shares : ℕ → Column → Node → Bool
+shares l x v = any (inColumn x) (hours l v)
+
+unfoldable pub inside : ℕ → Column → Node → Bool
+inside l x v = every (inColumn x) (hours l v)
+
 module _ (l : ℕ) (t : Table) (x : Column) where
-  unfoldable pub shares : Node → Bool
-  shares v = any (inColumn x) (hours l v)
-
-  unfoldable pub inside : Node → Bool
-  inside v = every (inColumn x) (hours l v)
-
   -- A node is opened if it has a reading, shares an hour with the column and is not wholly inside it; at depth d only a
   -- node of level below d. [columns 6, 7]
   unfoldable pub opened : ℕ → Node → Bool
-  opened d v = hasReading l t v && shares v && not (inside v) && ltb (v .level) d
+  opened d v = hasReading l t v && shares l x v && not (inside l x v) && ltb (v .level) d
 
   abbrev pub openedNodes : ℕ → List Node
   openedNodes d = keep (opened d) (allNodes l)
@@ -63,7 +64,7 @@ module _ (l : ℕ) (t : Table) (x : Column) where
 
   -- Outer range: over visited, unopened, non-empty nodes that share an hour with the column. [columns 10]
   abbrev pub isOuter : ℕ → Node → Bool
-  isOuter d v = visited d v && not (opened d v) && hasReading l t v && shares v
+  isOuter d v = visited d v && not (opened d v) && hasReading l t v && shares l x v
 
   unfoldable pub outer : ℕ → Range
   outer d = rangeOver (keep (isOuter d) (allNodes l))
@@ -71,7 +72,7 @@ module _ (l : ℕ) (t : Table) (x : Column) where
   -- Inner: the same over those wholly inside. From left to right these nodes are in the order of their hours.
   -- [columns 11]
   abbrev pub isInner : ℕ → Node → Bool
-  isInner d v = isOuter d v && inside v
+  isInner d v = isOuter d v && inside l x v
 
   unfoldable pub innerNodes : ℕ → List Node
   innerNodes d = keep (isInner d) (allNodes l)
@@ -79,8 +80,8 @@ module _ (l : ℕ) (t : Table) (x : Column) where
   abbrev pub inner : ℕ → Range
   inner d = rangeOver (innerNodes d)
 
-  -- Node 0, then the opened nodes in the order of examination; no node at all for a column without an hour. [columns
-  -- 5, 16]
+  -- Node 0, then the opened nodes in the order of examination; no node at all for a column without an hour.
+  -- [columns 5, 16]
   abbrev pub examineOpened : (n d : ℕ) → Check
   examineOpened n d = cond (noHour x) passes (examine l n t (openedNodes d))
 

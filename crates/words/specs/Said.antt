@@ -70,8 +70,8 @@ abbrev pub highOf : Range → ℤ
 highOf Empty = gap
 highOf (Held low high) = high
 
--- An answer in document 01's numbers: the refusal's number, 0 where the call is taken; its place; the values. [forms
--- 14]
+-- An answer in document 01's numbers: the refusal's number, 0 where the call is taken; its place; the values.
+-- [forms 14]
 pub record Said : Type 0 where
   pub number : ℕ
   pub place : ℕ

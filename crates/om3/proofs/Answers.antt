@@ -1,0 +1,54 @@
+-- Laws of the smaller definitions: one level's stretch, joining, the day. Assumes nothing.
+use mathlib.Core.Path.{_≡_, refl, sym, ap, _∙_}
+use mathlib.Core.Bool.{Bool, true, false, cond, not, _&&_, _||_}
+use Prim.Native.Nat.{ℕ, suc, _+_, _-_, _*_, _^_, _≤_, _<_, min}
+use native.Mathlib.Nat.{two-pow-succ}
+use native.Mathlib.Omega.{arith}
+use lib.Dec.{leb, ltb, eqb}
+use lib.Pow.{pow-mono}
+use borrow.Author.Tests.{leb-true, ltb-false, not-true}
+use Rattle.words.specs.Constants.{largestHours, dayHours}
+use Rattle.words.specs.declared.Answer.{Answer}
+use Rattle.words.specs.declared.Answer.the-variants.{NoReading, Found}
+use Rattle.om3.specs.Series.{levels, P}
+use Rattle.om3.specs.Nodes.{Node, number}
+use Rattle.om3.specs.Refusals.{short}
+use Rattle.om3.specs.Level.{Stretch, hasLevel, levelStretch}
+use Rattle.om3.specs.Joined.{joined}
+use Rattle.om3.specs.Days.{day}
+use Rattle.om3.proofs.Tests.{and-left, and-right, neither}
+
+-- A level's stretch lies within what is lent. [level 1]
+pub stretch-within : (n j lent : ℕ) → levelStretch n j lent .from + levelStretch n j lent .size ≤ lent
+unfolding levelStretch
+stretch-within n j lent = by (hasLevel n j lent) refl
+  where
+    at : Bool → Stretch
+    at b = cond b (record { from = 2 * 2 ^ j; size = 2 * 2 ^ j }) (record { from = 0; size = 0 })
+
+    by : (b : Bool) → hasLevel n j lent ≡ b → at b .from + at b .size ≤ lent
+    by false e = omega arith
+    by true e =
+        let wrong = eqb n 0 || ltb largestHours n in
+        let bad = wrong || short lent (P n) in
+        let deep = leb (j + 2) (levels n) in
+        let room = neither wrong (short lent (P n)) (not-true bad (and-left (not bad) deep e)) .1 in
+        let below : suc (suc j) ≤ levels n = omega (arith, leb-true (j + 2) (levels n) (and-right (not bad) deep e)) in
+        omega (arith, ltb-false lent (P n) room, pow-mono below, two-pow-succ j, two-pow-succ (suc j))
+
+-- The places of level j are those of the details of its nodes. [level 1] [table 3]
+pub stretch-level : (v : Node) → v .index < 2 ^ v .level
+    → (2 * 2 ^ v .level ≤ 2 * number v .0) × (2 * number v .0 + 1 < 4 * 2 ^ v .level)
+stretch-level v h = (omega arith, omega arith)
+
+-- "No reading" changes nothing on either side. [columns 19]
+pub joined-left : (a : Answer) → joined NoReading a ≡ a
+joined-left a = refl
+
+pub joined-right : (a : Answer) → joined a NoReading ≡ a
+joined-right NoReading = refl
+joined-right (Found s) = refl
+
+-- A day that is not refused has an hour, and ends by hour n. [columns 21]
+pub day-hours : (n d : ℕ) → dayHours * d < n → (day n d .from .0 < day n d .upto .0) × (day n d .upto .0 ≤ n)
+day-hours n d h = (omega arith, omega arith)

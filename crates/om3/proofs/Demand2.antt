@@ -1,0 +1,152 @@
+-- A table is sound exactly if some series has it, and that series is the one it turns back to. Assumes nothing.
+use mathlib.Core.Path.{_≡_, refl, sym, ap, _∙_}
+use mathlib.Core.Bool.{Bool, true, false, _||_}
+use mathlib.Core.List.{List}
+use mathlib.Core.Logic.{_↔_}
+use Prim.Native.Nat.{ℕ, suc, _+_, _/_, _^_, _≤_, _<_}
+use native.Mathlib.Nat.{le-refl}
+use native.Mathlib.Omega.{arith}
+use lib.Dec.{ltb}
+use lib.IntN.{ℤ, pos, negℤ}
+use lib.ListN.{length, getD, take}
+use lib.Seq.{ext-getD, getD-take, length-take-le, take-all}
+use borrow.Author.Tests.{lt-ltb, ltb-false}
+use Rattle.signed.proofs.Rules.{signed}
+use Rattle.words.specs.Constants.{largestHours, largestReading, gap}
+use Rattle.words.specs.Said.{lowOf}
+use Rattle.words.specs.declared.Range.{Range}
+use Rattle.words.specs.declared.Range.the-variants.{Empty, Held}
+use Rattle.om3.specs.Series.{isReading, isGap, Series, levels, P, hour, hourOf}
+use Rattle.om3.specs.Nodes.{Node}
+use Rattle.om3.specs.Table.{Table, coefficient, codeOfPlace, tableOf, HasTable}
+use Rattle.om3.specs.Down.{coefficientAt, reachedAt, turnedBack}
+use Rattle.om3.specs.Sound.{soundTable}
+use Rattle.om3.specs.Refusals.{short, tableShort}
+use Rattle.om3.proofs.Tests.{left-true, neither, is-between}
+use Rattle.om3.proofs.Lists.{map-up-length, map-up-from-0}
+use Rattle.om3.proofs.Levels.{levels-some, n≤P}
+use Rattle.om3.proofs.Nodes.{InTree, start-hour}
+use Rattle.om3.proofs.Ranges.{Readings, low-hour}
+use Rattle.om3.proofs.Places.{hour-range}
+use Rattle.om3.proofs.Reached.{reached-range}
+use Rattle.om3.proofs.MadeSound.{made-sound}
+use Rattle.om3.proofs.SoundTables.{readings-reached}
+use Rattle.om3.proofs.TurnedBack.{turned-length, turned-at, coefficient-same, codes-same}
+use Rattle.om3.proofs.Agreeing.{Agree, reached-agrees, sound-agrees}
+
+-- A buffer that is not too short has the places needed.
+module _ (n : ℕ) (t : Table) (room : tableShort n t ≡ false) where
+  parts : (short (length (t .coefficients)) (P n) ≡ false) × (short (length (t .codes)) (P n / 2) ≡ false)
+  parts = neither (short (length (t .coefficients)) (P n)) (short (length (t .codes)) (P n / 2)) room
+
+  pub coefficients-there : P n ≤ length (t .coefficients)
+  coefficients-there = ltb-false _ _ (parts .0)
+
+  pub codes-there : P n / 2 ≤ length (t .codes)
+  codes-there = ltb-false _ _ (parts .1)
+
+-- The low of a range of readings is a reading, or the gap mark where it is empty.
+low-holds : (r : Range) → Readings r → (isReading (lowOf r) || isGap (lowOf r)) ≡ true
+low-holds Empty p = refl
+low-holds (Held a b) p =
+    left-true (isGap a) (is-between (negℤ (pos largestReading)) (pos largestReading) a (omega signed) (omega signed))
+
+module _ (n : ℕ) where
+  abbrev l : ℕ
+  l = levels n
+
+  -- The table of a series has it.
+  pub made-has : (s : List ℤ) → HasTable n s (tableOf l n s)
+  made-has s =
+      record {
+        coefficients = take-all (P n) _ (omega (arith, map-up-length (coefficient l n s) 0 (P n)));
+        codes = take-all (P n / 2) _ (omega (arith, map-up-length (codeOfPlace l n s) 0 (P n / 2)));
+      }
+
+  has-agrees : (s : List ℤ) (t : Table) → HasTable n s t → Agree l t (tableOf l n s)
+  has-agrees s t h =
+      record {
+        coefficients = λ p b.
+            sym (getD-take (P n) (t .coefficients) p (pos 0) b)
+            ∙ ap (λ (cs : List ℤ). getD cs p (pos 0)) (h .coefficients);
+        codes = λ p b. sym (getD-take (P n / 2) (t .codes) p 0 b) ∙ ap (λ (cs : List ℕ). getD cs p 0) (h .codes);
+      }
+
+  -- A table that some series has: it is sound, and turns back to that series.
+  module _ (s : List ℤ) (t : Table) (series : Series n s) (h : HasTable n s t) where
+    pub has-sound : soundTable l n t ≡ true
+    has-sound =
+        sound-agrees l t (tableOf l n s) (has-agrees s t h) (levels-some n) n (made-sound l n s series (levels-some n))
+
+    at-hour : (k : ℕ) → k < n → getD s k gap ≡ lowOf (reachedAt l t l k)
+    unfolding hourOf
+    at-hour k b =
+        let o = levels-some n in
+        let b′ : k < 2 ^ l = omega (arith, n≤P n (series .most)) in
+        let v : Node = record { level = l; index = k } in
+        rw (
+          reached-agrees l t (tableOf l n s) (has-agrees s t h) o l k (le-refl l) b′,
+          reached-range l n s series o l k (le-refl l) b′,
+          hour-range l n s v refl,
+          start-hour l v refl,
+          low-hour (hourOf n s (hour k)),
+          lt-ltb k n b,
+        )
+
+    pub has-turned : s ≡ turnedBack l t n
+    has-turned =
+        ext-getD gap s (turnedBack l t n) (series .size ∙ sym (turned-length l t n))
+        (λ k b. let b′ : k < n = omega (arith, series .size) in at-hour k b′ ∙ sym (turned-at l t n k b′))
+
+  -- A sound table: the hours it turns back to are a series, and that series has it.
+  module _ (some : 1 ≤ n) (most : n ≤ largestHours) (t : Table) (ok : soundTable l n t ≡ true) where
+    pub turned-series : Series n (turnedBack l t n)
+    turned-series =
+        record {
+          some = some;
+          most = most;
+          size = turned-length l t n;
+          holds = λ k b.
+              let b′ : k < 2 ^ l = omega (arith, n≤P n most) in
+              let i : InTree l (record { level = l; index = k }) = record { deep = le-refl l; low = b′ } in
+              rw (turned-at l t n k b) (low-holds (reachedAt l t l k) (readings-reached l n t ok _ i));
+        }
+
+    pub turned-has : tableShort n t ≡ false → HasTable n (turnedBack l t n) t
+    turned-has room =
+        let o = levels-some n in
+        let S = turnedBack l t n in
+        let T = tableOf l n S in
+        let a = length-take-le (P n) (t .coefficients) (coefficients-there n t room) in
+        let b = length-take-le (P n / 2) (t .codes) (codes-there n t room) in
+        record {
+          coefficients =
+              ext-getD (pos 0) (take (P n) (t .coefficients)) (T .coefficients)
+              (a ∙ sym (map-up-length (coefficient l n S) 0 (P n)))
+              (λ p h.
+              let h′ : p < P n = omega (arith, a) in
+              getD-take (P n) (t .coefficients) p (pos 0) h′ ∙ sym (coefficient-same l n t ok o p h′));
+          codes =
+              ext-getD 0 (take (P n / 2) (t .codes)) (T .codes)
+              (b ∙ sym (map-up-length (codeOfPlace l n S) 0 (P n / 2)))
+              (λ p h.
+              let h′ : p < P n / 2 = omega (arith, b) in
+              getD-take (P n / 2) (t .codes) p 0 h′
+              ∙ sym (map-up-from-0 (codeOfPlace l n S) 0 (P n / 2) p h′ ∙ codes-same l n t ok o p h′));
+        }
+
+  -- The table of a series turned back is the series: each reading and each gap at its own hour.
+  pub made-turned : (s : List ℤ) → Series n s → turnedBack l (tableOf l n s) n ≡ s
+  made-turned s series = sym (has-turned s (tableOf l n s) series (made-has s))
+
+  -- Sound exactly if some series of n hours has it.
+  pub sound-exactly : 1 ≤ n → n ≤ largestHours → (t : Table) → tableShort n t ≡ false
+      → (soundTable l n t ≡ true) ↔ ((s : List ℤ) × Series n s × HasTable n s t)
+  sound-exactly some most t room = (
+    λ ok. (turnedBack l t n, turned-series some most t ok, turned-has some most t ok room),
+    λ h. has-sound (h .0) t (h .1) (h .2),
+  )
+
+  -- And that series is the only one.
+  pub only-series : (t : Table) (s u : List ℤ) → Series n s → HasTable n s t → Series n u → HasTable n u t → s ≡ u
+  only-series t s u a p b q = has-turned s t a p ∙ sym (has-turned u t b q)

@@ -1,0 +1,136 @@
+-- Going down from a node's range with its details gives the ranges of its halves, and only they do. Assumes nothing.
+use mathlib.Core.Path.{_≡_, refl, sym, ap, _∙_}
+use mathlib.Core.Bool.{Bool, true, false, cond}
+use Prim.Native.Nat.{ℕ, _+_, _-_, _<_}
+use lib.Dec.{eqb, lit<}
+use lib.IntN.{ℤ, pos, negsuc, _+ℤ_, _-ℤ_}
+use lib.Signed.{leZ, ltZ, _≤ℤ_}
+use borrow.Author.Tests.{ne-eqb}
+use Rattle.signed.specs.Choice.{minZ, maxZ, isZ}
+use Rattle.signed.proofs.Parts.{up, dn}
+use Rattle.signed.proofs.Sums.{add-parts, sub-parts}
+use Rattle.signed.proofs.Choices.{min-parts, max-parts}
+use Rattle.signed.proofs.Rules.{signed}
+use Rattle.words.specs.Constants.{largestDetail, leftMark, rightMark, gapMark}
+use Rattle.words.specs.Said.{lowOf, highOf}
+use Rattle.words.specs.declared.Range.{Range}
+use Rattle.words.specs.declared.Range.the-variants.{Empty, Held}
+use Rattle.om3.specs.Series.{isGap}
+use Rattle.om3.specs.Ranges.{hourRange, both}
+use Rattle.om3.specs.Table.{lowDetail, highDetail, code}
+use Rattle.om3.specs.Down.{leftLow, rightLow, leftHigh, rightHigh, leftHalf, rightHalf}
+use Rattle.om3.specs.Down.{firstOfPair, secondOfPair, rootRange}
+use Rattle.om3.proofs.Ranges.{Readings}
+
+-- The left low is the low plus what the detail is over zero; the other three likewise.
+pub leftLow-parts : (a d : ℤ) → up (leftLow a d) + dn a ≡ up a + (up d - dn d) + dn (leftLow a d)
+leftLow-parts a d = by (leZ d (pos 0)) refl
+  where
+    by : (t : Bool) → leZ d (pos 0) ≡ t
+        → up (cond t a (a +ℤ d)) + dn a ≡ up a + (up d - dn d) + dn (cond t a (a +ℤ d))
+    by true e = omega signed
+    by false e = omega (signed, add-parts a d)
+
+pub rightLow-parts : (a d : ℤ) → up (rightLow a d) + dn a ≡ up a + (dn d - up d) + dn (rightLow a d)
+rightLow-parts a d = by (leZ d (pos 0)) refl
+  where
+    by : (t : Bool) → leZ d (pos 0) ≡ t
+        → up (cond t (a -ℤ d) a) + dn a ≡ up a + (dn d - up d) + dn (cond t (a -ℤ d) a)
+    by true e = omega (signed, sub-parts a d)
+    by false e = omega signed
+
+pub leftHigh-parts : (a d : ℤ) → up (leftHigh a d) + dn a + (dn d - up d) ≡ up a + dn (leftHigh a d)
+leftHigh-parts a d = by (leZ (pos 0) d) refl
+  where
+    by : (t : Bool) → leZ (pos 0) d ≡ t
+        → up (cond t a (a +ℤ d)) + dn a + (dn d - up d) ≡ up a + dn (cond t a (a +ℤ d))
+    by true e = omega signed
+    by false e = omega (signed, add-parts a d)
+
+pub rightHigh-parts : (a d : ℤ) → up (rightHigh a d) + dn a + (up d - dn d) ≡ up a + dn (rightHigh a d)
+rightHigh-parts a d = by (leZ (pos 0) d) refl
+  where
+    by : (t : Bool) → leZ (pos 0) d ≡ t
+        → up (cond t (a -ℤ d) a) + dn a + (up d - dn d) ≡ up a + dn (cond t (a -ℤ d) a)
+    by true e = omega (signed, sub-parts a d)
+    by false e = omega signed
+
+-- A number that is no more than the largest detail is no mark.
+pub no-mark : (k : ℕ) (z : ℤ) → largestDetail < k → z ≤ℤ pos largestDetail → isZ k z ≡ false
+no-mark k (pos m) b h = ne-eqb m k (λ e. omega signed)
+no-mark k (negsuc m) b h = refl
+
+-- From the lesser of two lows and their difference both lows come back; from the greater of two highs both highs.
+module _ (x y : ℤ) where
+  left-low-back : leftLow (minZ x y) (x -ℤ y) ≡ x
+  left-low-back = omega (signed, min-parts x y, sub-parts x y, leftLow-parts (minZ x y) (x -ℤ y))
+
+  right-low-back : rightLow (minZ x y) (x -ℤ y) ≡ y
+  right-low-back = omega (signed, min-parts x y, sub-parts x y, rightLow-parts (minZ x y) (x -ℤ y))
+
+  left-high-back : leftHigh (maxZ x y) (x -ℤ y) ≡ x
+  left-high-back = omega (signed, max-parts x y, sub-parts x y, leftHigh-parts (maxZ x y) (x -ℤ y))
+
+  right-high-back : rightHigh (maxZ x y) (x -ℤ y) ≡ y
+  right-high-back = omega (signed, max-parts x y, sub-parts x y, rightHigh-parts (maxZ x y) (x -ℤ y))
+
+module _ (a b c d : ℤ) (p : Readings (Held a b)) (q : Readings (Held c d)) where
+  small : (a -ℤ c) ≤ℤ pos largestDetail
+  small = omega (signed, sub-parts a c)
+
+  left-held : leftHalf (both (Held a b) (Held c d)) (a -ℤ c) (b -ℤ d) ≡ Held a b
+  left-held =
+      rw (no-mark leftMark (a -ℤ c) (lit< tt) small, no-mark rightMark (a -ℤ c) (lit< tt) small)
+      (cc (left-low-back a c, left-high-back b d))
+
+  right-held : rightHalf (both (Held a b) (Held c d)) (a -ℤ c) (b -ℤ d) ≡ Held c d
+  right-held =
+      rw (no-mark leftMark (a -ℤ c) (lit< tt) small, no-mark rightMark (a -ℤ c) (lit< tt) small)
+      (cc (right-low-back a c, right-high-back b d))
+
+pub left-back : (r s : Range) → Readings r → Readings s → leftHalf (both r s) (lowDetail r s) (highDetail r s) ≡ r
+left-back Empty Empty p q = refl
+left-back Empty (Held c d) p q = refl
+left-back (Held a b) Empty p q = refl
+left-back (Held a b) (Held c d) p q = left-held a b c d p q
+
+pub right-back : (r s : Range) → Readings r → Readings s → rightHalf (both r s) (lowDetail r s) (highDetail r s) ≡ s
+right-back Empty Empty p q = refl
+right-back Empty (Held c d) p q = refl
+right-back (Held a b) Empty p q = refl
+right-back (Held a b) (Held c d) p q = right-held a b c d p q
+
+-- The root values give node 1's range.
+pub root-back : (r : Range) → Readings r → rootRange (lowOf r) (highOf r) ≡ r
+root-back Empty p = refl
+root-back (Held a b) p =
+    let h : a ≤ℤ pos largestDetail = omega signed in
+    rw (no-mark gapMark a (lit< tt) h)
+
+-- A pair's range and code give its two hours.
+module _ (x y : ℤ) where
+  abbrev hourIf : Bool → ℤ → Range
+  hourIf f z = cond f Empty (Held z z)
+
+  abbrev codeIf : Bool → Bool → Bool → ℕ
+  codeIf f g h = cond f (cond g 4 3) (cond g 2 (cond h 1 0))
+
+  pub first-back : firstOfPair (both (hourRange x) (hourRange y)) (code x y) ≡ hourRange x
+  first-back = by (isGap x) (isGap y) (ltZ x y) refl
+    where
+      by : (f g h : Bool) → ltZ x y ≡ h → firstOfPair (both (hourIf f x) (hourIf g y)) (codeIf f g h) ≡ hourIf f x
+      by true true h e = refl
+      by true false h e = refl
+      by false true h e = refl
+      by false false true e = let m : minZ x y ≡ x = omega (signed, min-parts x y) in cc
+      by false false false e = let m : maxZ x y ≡ x = omega (signed, max-parts x y) in cc
+
+  pub second-back : secondOfPair (both (hourRange x) (hourRange y)) (code x y) ≡ hourRange y
+  second-back = by (isGap x) (isGap y) (ltZ x y) refl
+    where
+      by : (f g h : Bool) → ltZ x y ≡ h → secondOfPair (both (hourIf f x) (hourIf g y)) (codeIf f g h) ≡ hourIf g y
+      by true true h e = refl
+      by true false h e = refl
+      by false true h e = refl
+      by false false true e = let m : maxZ x y ≡ y = omega (signed, max-parts x y) in cc
+      by false false false e = let m : minZ x y ≡ y = omega (signed, min-parts x y) in cc

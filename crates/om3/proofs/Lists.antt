@@ -1,0 +1,82 @@
+-- Lists made by counting up, and the first number that passes a test. Assumes nothing.
+use mathlib.Core.Path.{_≡_, refl, sym, ap, _∙_}
+use mathlib.Core.Bool.{Bool, true, false, cond}
+use mathlib.Core.List.{List, [], _∷_, _++_, map}
+use mathlib.Core.Logic.{⊎-elim}
+use Prim.Native.Nat.{ℕ, zero, suc, _+_, _≤_, _<_}
+use native.Mathlib.Nat.{zero-add, add-zero, suc-add, eq-or-lt-of-le}
+use native.Mathlib.Omega.{arith}
+use lib.ListN.{length, getD, length-map}
+use Rattle.signed.proofs.Parts.{clash}
+use Rattle.om3.specs.Lists.{upFrom, firstFrom}
+
+pub up-append : (f a b : ℕ) → upFrom f (a + b) ≡ upFrom f a ++ upFrom (f + a) b
+unfolding upFrom
+up-append f zero b = ap (upFrom f) (zero-add b) ∙ sym (ap (λ (k : ℕ). upFrom k b) (add-zero f))
+up-append f (suc a) b =
+    let e : f + 1 + a ≡ f + suc a = omega arith in
+    ap (upFrom f) (suc-add a b)
+    ∙ ap (_∷_ f) (up-append (f + 1) a b ∙ ap (λ (k : ℕ). upFrom (f + 1) a ++ upFrom k b) e)
+
+pub up-length : (f c : ℕ) → length (upFrom f c) ≡ c
+unfolding upFrom
+up-length f zero = refl
+up-length f (suc c) = ap suc (up-length (f + 1) c)
+
+module _ {A : Type 0} (g : ℕ → A) where
+  pub map-up-length : (f c : ℕ) → length (map g (upFrom f c)) ≡ c
+  map-up-length f c = length-map (upFrom f c) g ∙ up-length f c
+
+  -- What stands at a place of a list made place by place.
+  pub map-up-at : (d : A) (f c p : ℕ) → p < c → getD (map g (upFrom f c)) p d ≡ g (f + p)
+  unfolding upFrom
+  map-up-at d f zero p h = absurd (omega arith)
+  map-up-at d f (suc c) zero h = ap g (sym (add-zero f))
+  map-up-at d f (suc c) (suc p) h =
+      let h′ : p < c = omega arith in
+      let e : f + 1 + p ≡ f + suc p = omega arith in
+      map-up-at d (f + 1) c p h′ ∙ ap g e
+
+  pub map-up-from-0 : (d : A) (c p : ℕ) → p < c → getD (map g (upFrom 0 c)) p d ≡ g p
+  map-up-from-0 d c p h = map-up-at d 0 c p h ∙ ap g (zero-add p)
+
+-- `firstFrom p j f` is from j up to j + f, passes the test if j + f does, and nothing from j on that passes is less.
+module _ (p : ℕ → Bool) where
+  pub first-from : (j f : ℕ) → j ≤ firstFrom p j f
+  unfolding firstFrom
+  first-from j zero = omega arith
+  first-from j (suc f) = by (p j) (first-from (suc j) f)
+    where
+      by : (b : Bool) → suc j ≤ firstFrom p (suc j) f → j ≤ cond b j (firstFrom p (suc j) f)
+      by true h = omega arith
+      by false h = omega arith
+
+  pub first-upto : (j f : ℕ) → firstFrom p j f ≤ j + f
+  unfolding firstFrom
+  first-upto j zero = omega arith
+  first-upto j (suc f) = by (p j) (first-upto (suc j) f)
+    where
+      by : (b : Bool) → firstFrom p (suc j) f ≤ suc j + f → cond b j (firstFrom p (suc j) f) ≤ j + suc f
+      by true h = omega arith
+      by false h = omega arith
+
+  pub first-passes : (j f : ℕ) → p (j + f) ≡ true → p (firstFrom p j f) ≡ true
+  unfolding firstFrom
+  first-passes j zero e = ap p (sym (add-zero j)) ∙ e
+  first-passes j (suc f) e =
+      let m : suc j + f ≡ j + suc f = omega arith in
+      by (p j) refl (first-passes (suc j) f (ap p m ∙ e))
+    where
+      by : (b : Bool) → p j ≡ b → p (firstFrom p (suc j) f) ≡ true → p (cond b j (firstFrom p (suc j) f)) ≡ true
+      by true q h = q
+      by false q h = h
+
+  pub first-least : (j f i : ℕ) → j ≤ i → i ≤ j + f → p i ≡ true → firstFrom p j f ≤ i
+  unfolding firstFrom
+  first-least j zero i a b e = a
+  first-least j (suc f) i a b e = by (p j) refl (first-least (suc j) f i)
+    where
+      by : (t : Bool) → p j ≡ t → (suc j ≤ i → i ≤ suc j + f → p i ≡ true → firstFrom p (suc j) f ≤ i)
+          → cond t j (firstFrom p (suc j) f) ≤ i
+      by true q h = a
+      by false q h = h (⊎-elim (λ m. clash (sym q ∙ ap p m ∙ e)) (λ m. m) (eq-or-lt-of-le a)) (omega arith) e

@@ -1,0 +1,142 @@
+-- The table of a series is sound. Assumes nothing.
+use mathlib.Core.Path.{_≡_, refl, sym, ap, _∙_}
+use mathlib.Core.Bool.{Bool, true, false, cond, _&&_, _||_}
+use mathlib.Core.List.{List}
+use mathlib.Core.Logic.{⊎-elim}
+use Prim.Native.Nat.{ℕ, suc, _≤_, _<_, _^_}
+use native.Mathlib.Nat.{eq-or-lt-of-le}
+use native.Mathlib.Omega.{arith}
+use lib.Dec.{ltb}
+use lib.IntN.{ℤ, pos, negℤ, _-ℤ_}
+use lib.Signed.{ltZ}
+use lib.ListN.{getD}
+use Rattle.signed.specs.Choice.{minZ, maxZ, eqZ, isZ}
+use Rattle.signed.proofs.Sums.{sub-parts}
+use Rattle.signed.proofs.Choices.{min-parts, max-parts, true-eqZ}
+use Rattle.signed.proofs.Rules.{signed}
+use Rattle.words.specs.Constants.{largestReading, largestDetail, leftMark, rightMark, gap}
+use Rattle.words.specs.Said.{lowOf, highOf}
+use Rattle.words.specs.declared.Range.{Range}
+use Rattle.words.specs.declared.Range.the-variants.{Empty, Held}
+use Rattle.om3.specs.Series.{isReading, isGap, Series, hour, hourOf}
+use Rattle.om3.specs.Nodes.{Node, root, left, right, start}
+use Rattle.om3.specs.Ranges.{hourRange, both, rangeOf, isEmpty}
+use Rattle.om3.specs.Table.{Table, lowDetail, highDetail, code, pairCode, tableOf}
+use Rattle.om3.specs.Down.{leftHalf, rightHalf, coefficientAt}
+use Rattle.om3.specs.Sound.{soundRoot, isDetail, ordered, bothAre, soundDetails, soundCode, gapFrom, soundNode}
+use Rattle.om3.specs.Sound.{soundTable}
+use Rattle.om3.proofs.Tests.{both-true, left-true, right-true, is-between}
+use Rattle.om3.proofs.Nodes.{InTree, pair-yes, pair-no}
+use Rattle.om3.proofs.Ranges.{Readings, range-halves, readings-range}
+use Rattle.om3.proofs.Down.{left-back, right-back, first-back, second-back}
+use Rattle.om3.proofs.Places.{root-low, root-high, low-place, high-place, code-place, hour-range}
+use Rattle.om3.proofs.Reached.{reached-range}
+use Rattle.om3.proofs.NodeLists.{table-from-each}
+
+root-sound : (r : Range) → Readings r → soundRoot (lowOf r) (highOf r) ≡ true
+root-sound Empty p = refl
+root-sound (Held a b) p =
+    right-true (isGap a && isGap b)
+    (both-true {a = isReading a && isReading b}
+    (both-true {a = isReading a}
+    (is-between (negℤ (pos largestReading)) (pos largestReading) a (omega signed) (omega signed))
+    (is-between (negℤ (pos largestReading)) (pos largestReading) b (omega signed) (omega signed)))
+    (omega signed))
+
+-- A node that is not a pair, and both of whose halves have readings.
+module _ (a b c d : ℤ) (p : Readings (Held a b)) (q : Readings (Held c d)) where
+  abbrev r : Range
+  r = both (Held a b) (Held c d)
+
+  held-sound : soundDetails r (a -ℤ c) (b -ℤ d) ≡ true
+  held-sound =
+      right-true (bothAre leftMark (a -ℤ c) (b -ℤ d) || bothAre rightMark (a -ℤ c) (b -ℤ d))
+      (both-true {a = isDetail (a -ℤ c) && isDetail (b -ℤ d) && ordered (leftHalf r (a -ℤ c) (b -ℤ d))}
+      (both-true {a = isDetail (a -ℤ c) && isDetail (b -ℤ d)}
+      (both-true {a = isDetail (a -ℤ c)}
+      (is-between (negℤ (pos largestDetail)) (pos largestDetail) (a -ℤ c)
+      (omega (signed, sub-parts a c)) (omega (signed, sub-parts a c)))
+      (is-between (negℤ (pos largestDetail)) (pos largestDetail) (b -ℤ d)
+      (omega (signed, sub-parts b d)) (omega (signed, sub-parts b d))))
+      (ap ordered (left-back (Held a b) (Held c d) p q) ∙ omega signed))
+      (ap ordered (right-back (Held a b) (Held c d) p q) ∙ omega signed))
+
+details-sound : (r s : Range) → Readings r → Readings s
+    → soundDetails (both r s) (lowDetail r s) (highDetail r s) ≡ true
+details-sound Empty Empty p q = refl
+details-sound Empty (Held c d) p q = refl
+details-sound (Held a b) Empty p q = refl
+details-sound (Held a b) (Held c d) p q = held-sound a b c d p q
+
+code-sound : (x y : ℤ) → soundCode (both (hourRange x) (hourRange y)) (code x y) ≡ true
+code-sound x y = by (isGap x) (isGap y) (ltZ x y) refl
+  where
+    hourIf : Bool → ℤ → Range
+    hourIf f z = cond f Empty (Held z z)
+
+    codeIf : Bool → Bool → Bool → ℕ
+    codeIf f g h = cond f (cond g 4 3) (cond g 2 (cond h 1 0))
+
+    by : (f g h : Bool) → ltZ x y ≡ h → soundCode (both (hourIf f x) (hourIf g y)) (codeIf f g h) ≡ true
+    by true true h e = refl
+    by true false h e = true-eqZ y y refl
+    by false true h e = true-eqZ x x refl
+    by false false true e = left-true {a = ltZ (minZ x y) (maxZ x y)} _ (omega (signed, min-parts x y, max-parts x y))
+    by false false false e = refl
+
+-- Hours from n on are gaps.
+late-gap : (n : ℕ) (s : List ℤ) (t : ℕ) → gapFrom n t (hourRange (hourOf n s (hour t))) ≡ true
+unfolding hourOf
+late-gap n s t = by (ltb t n)
+  where
+    by : (b : Bool) → (b || isEmpty (hourRange (cond b (getD s t gap) gap))) ≡ true
+    by true = refl
+    by false = refl
+
+module _ (l n : ℕ) (s : List ℤ) (series : Series n s) (o : 1 ≤ l) where
+  abbrev T : Table
+  T = tableOf l n s
+
+  module _ (v : Node) (i : InTree l v) (b : v .level < l) where
+    detail-node : suc (v .level) < l → soundNode l n T v ≡ true
+    unfolding soundNode
+    detail-node h =
+        rw (
+          pair-no l v h,
+          reached-range l n s series o (v .level) (v .index) (i .deep) (i .low),
+          range-halves l n s v b,
+          low-place l n s v i h,
+          high-place l n s v i h,
+        )
+        (details-sound (rangeOf l n s (left v)) (rangeOf l n s (right v))
+        (readings-range n s series l (left v)) (readings-range n s series l (right v)))
+
+    pair-node : suc (v .level) ≡ l → soundNode l n T v ≡ true
+    unfolding soundNode pairCode
+    pair-node h =
+        let x = hourOf n s (hour (start l (left v))) in
+        let y = hourOf n s (hour (start l (right v))) in
+        rw (
+          pair-yes l v h,
+          reached-range l n s series o (v .level) (v .index) (i .deep) (i .low),
+          range-halves l n s v b,
+          code-place l n s v i h,
+          hour-range l n s (left v) h,
+          hour-range l n s (right v) h,
+          first-back x y,
+          second-back x y,
+        )
+        (let C = soundCode (both (hourRange x) (hourRange y)) (code x y) in
+        let F = gapFrom n (start l (left v)) (hourRange x) in
+        both-true {a = C && F} (both-true {a = C} (code-sound x y) (late-gap n s (start l (left v))))
+        (late-gap n s (start l (right v))))
+
+    node-sound : soundNode l n T v ≡ true
+    node-sound = ⊎-elim pair-node detail-node (eq-or-lt-of-le b)
+
+  pub made-sound : soundTable l n T ≡ true
+  unfolding soundTable
+  made-sound =
+      both-true {a = soundRoot (coefficientAt T 0) (coefficientAt T 1)}
+      (rw (root-low l n s o, root-high l n s o) (root-sound (rangeOf l n s root) (readings-range n s series l root)))
+      (table-from-each l (soundNode l n T) node-sound)

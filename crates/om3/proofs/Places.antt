@@ -1,0 +1,72 @@
+-- What stands at the places of the table of a series. Assumes nothing.
+use mathlib.Core.Path.{_≡_, refl, sym, ap, _∙_}
+use mathlib.Core.Bool.{true, false}
+use mathlib.Core.List.{List}
+use Prim.Native.Nat.{ℕ, zero, suc, _+_, _-_, _*_, _/_, _%_, _^_, _≤_, _<_}
+use native.Mathlib.Omega.{arith}
+use lib.Dec.{eqb}
+use lib.IntN.{ℤ, pos}
+use lib.Pow.{pow-pos, pow-mono}
+use borrow.Author.Tests.{ne-eqb}
+use Rattle.words.specs.declared.NodeId.{NodeId}
+use Rattle.words.specs.Said.{lowOf, highOf}
+use Rattle.om3.specs.Lists.{upFrom}
+use Rattle.om3.specs.Series.{hour, hourOf}
+use Rattle.om3.specs.Nodes.{Node, number, root, left, right, start, hours, nodeOf}
+use Rattle.om3.specs.Ranges.{hourRange, look, rangeOf}
+use Rattle.om3.specs.Table.{Table, lowDetail, highDetail, detail, coefficient, pairCode, codeOfPlace, tableOf}
+use Rattle.om3.specs.Down.{coefficientAt, lowDetailAt, highDetailAt, codeAt}
+use Rattle.om3.proofs.Lists.{map-up-from-0}
+use Rattle.om3.proofs.Nodes.{InTree, detail-room, pair-half, code-room, width-hour, node-of-number}
+use Rattle.om3.proofs.Ranges.{both-empty}
+
+module _ (l n : ℕ) (s : List ℤ) where
+  abbrev T : Table
+  T = tableOf l n s
+
+  pub coefficient-place : (p : ℕ) → p < 2 ^ l → coefficientAt T p ≡ coefficient l n s p
+  coefficient-place p h = map-up-from-0 (coefficient l n s) (pos 0) (2 ^ l) p h
+
+  -- The root values stand at places 0 and 1.
+  module _ (o : 1 ≤ l) where
+    pub root-low : coefficientAt T 0 ≡ lowOf (rangeOf l n s root)
+    unfolding coefficient
+    root-low = coefficient-place 0 (pow-pos l)
+
+    pub root-high : coefficientAt T 1 ≡ highOf (rangeOf l n s root)
+    unfolding coefficient
+    root-high = coefficient-place 1 (pow-mono o)
+
+  -- The details of a node that is not a pair stand at places 2i and 2i + 1.
+  module _ (v : Node) (i : InTree l v) (b : suc (v .level) < l) where
+    detail-place : (p which : ℕ) → 2 ≤ p → p < 2 ^ l → p / 2 ≡ number v .0 → p % 2 ≡ which
+        → coefficientAt T p ≡ detail l n s v which
+    unfolding coefficient
+    detail-place p which two h half rest =
+        let z : p ≡ 0 → ⊥ = λ e. omega arith in
+        let o : p ≡ 1 → ⊥ = λ e. omega arith in
+        coefficient-place p h
+        ∙ rw (ne-eqb p 0 z, ne-eqb p 1 o, half, rest) (ap (λ (u : Node). detail l n s u which) (node-of-number l v i))
+
+    pub low-place : lowDetailAt T (number v) ≡ lowDetail (rangeOf l n s (left v)) (rangeOf l n s (right v))
+    low-place =
+        let two : 2 ≤ 2 * number v .0 = omega (arith, pow-pos (v .level)) in
+        let h : 2 * number v .0 < 2 ^ l = omega (arith, detail-room l v i b) in
+        detail-place (2 * number v .0) 0 two h (omega arith) (omega arith)
+
+    pub high-place : highDetailAt T (number v) ≡ highDetail (rangeOf l n s (left v)) (rangeOf l n s (right v))
+    high-place =
+        let two : 2 ≤ 2 * number v .0 + 1 = omega (arith, pow-pos (v .level)) in
+        detail-place (2 * number v .0 + 1) 1 two (detail-room l v i b) (omega arith) (omega arith)
+
+  -- The code of pair i stands at place i − P/2.
+  pub code-place : (v : Node) → InTree l v → suc (v .level) ≡ l → codeAt l T (number v) ≡ pairCode l n s v
+  code-place v i h =
+      let e : number v .0 - 2 ^ l / 2 + 2 ^ l / 2 ≡ number v .0 = omega (arith, pair-half l v h) in
+      map-up-from-0 (codeOfPlace l n s) 0 (2 ^ l / 2) _ (code-room l v i h)
+      ∙ rw (e, node-of-number l v i)
+
+  -- The range of a single hour is that of what it holds.
+  pub hour-range : (v : Node) → v .level ≡ l → rangeOf l n s v ≡ hourRange (hourOf n s (hour (start l v)))
+  unfolding rangeOf hours look upFrom
+  hour-range v z = rw (width-hour l v z) (both-empty (hourRange (hourOf n s (hour (start l v)))))

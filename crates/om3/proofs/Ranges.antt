@@ -1,0 +1,103 @@
+-- Ranges of neighbouring hours join, an empty one changes nothing, and the ranges of a series lie within readings.
+-- Assumes nothing.
+use mathlib.Core.Path.{_≡_, refl, sym, ap, _∙_}
+use mathlib.Core.Bool.{Bool, true, false, cond, _||_}
+use mathlib.Core.List.{List, [], _∷_, _++_, map, map-append}
+use mathlib.Core.Logic.{⊎-elim}
+use Prim.Native.Nat.{ℕ, _<_}
+use lib.Dec.{ltb}
+use lib.IntN.{ℤ, pos, negℤ}
+use lib.Signed.{_≤ℤ_}
+use lib.ListN.{getD}
+use borrow.Author.Tests.{ltb-true}
+use Rattle.signed.specs.Choice.{minZ, maxZ, isZ}
+use Rattle.signed.proofs.Parts.{clash}
+use Rattle.signed.proofs.Choices.{min-parts, max-parts, isZ-true}
+use Rattle.signed.proofs.Rules.{signed}
+use Rattle.words.specs.Constants.{largestReading, gapMark, gap}
+use Rattle.words.specs.Said.{lowOf}
+use Rattle.words.specs.declared.Timestamp.{Timestamp}
+use Rattle.words.specs.declared.Range.{Range}
+use Rattle.words.specs.declared.Range.the-variants.{Empty, Held}
+use Rattle.om3.specs.Series.{isReading, isGap, Series, hour, hourOf}
+use Rattle.om3.specs.Nodes.{Node, left, right, hours}
+use Rattle.om3.specs.Ranges.{hourRange, both, look, rangeOf}
+use Rattle.om3.proofs.Tests.{or-cases, between}
+use Rattle.om3.proofs.Nodes.{hours-halves}
+
+min-assoc : (a b c : ℤ) → minZ (minZ a b) c ≡ minZ a (minZ b c)
+min-assoc a b c = omega (signed, min-parts a b, min-parts b c, min-parts (minZ a b) c, min-parts a (minZ b c))
+
+max-assoc : (a b c : ℤ) → maxZ (maxZ a b) c ≡ maxZ a (maxZ b c)
+max-assoc a b c = omega (signed, max-parts a b, max-parts b c, max-parts (maxZ a b) c, max-parts a (maxZ b c))
+
+pub both-assoc : (r s u : Range) → both (both r s) u ≡ both r (both s u)
+both-assoc Empty s u = refl
+both-assoc (Held a b) Empty u = refl
+both-assoc (Held a b) (Held c d) Empty = refl
+both-assoc (Held a b) (Held c d) (Held e f) = cc (min-assoc a c e, max-assoc b d f)
+
+pub both-empty : (r : Range) → both r Empty ≡ r
+both-empty Empty = refl
+both-empty (Held a b) = refl
+
+-- The low of one hour's range is what the hour holds.
+pub low-hour : (z : ℤ) → lowOf (hourRange z) ≡ z
+low-hour z = by (isGap z) refl
+  where
+    by : (b : Bool) → isGap z ≡ b → lowOf (cond b Empty (Held z z)) ≡ z
+    by true e = sym (isZ-true gapMark z e)
+    by false e = refl
+
+-- Two neighbouring stretches of hours: their ranges join.
+pub look-append : (xs ys : List ℤ) → look (xs ++ ys) ≡ both (look xs) (look ys)
+unfolding look
+look-append [] ys = refl
+look-append (x ∷ xs) ys =
+    ap (both (hourRange x)) (look-append xs ys) ∙ sym (both-assoc (hourRange x) (look xs) (look ys))
+
+pub range-halves : (l n : ℕ) (s : List ℤ) (v : Node) → v .level < l
+    → rangeOf l n s v ≡ both (rangeOf l n s (left v)) (rangeOf l n s (right v))
+unfolding rangeOf
+range-halves l n s v b =
+    rw (hours-halves l v b, map-append (hourOf n s) (hours l (left v)) (hours l (right v)))
+    (look-append (map (hourOf n s) (hours l (left v))) (map (hourOf n s) (hours l (right v))))
+
+-- A range of readings: low ≤ high, and both are readings. An empty one has nothing to hold to.
+abbrev pub Readings : Range → Type 0
+Readings Empty = Unit
+Readings (Held a b) = (negℤ (pos largestReading) ≤ℤ a) × (a ≤ℤ b) × (b ≤ℤ pos largestReading)
+
+pub readings-both : (r s : Range) → Readings r → Readings s → Readings (both r s)
+readings-both Empty s p q = q
+readings-both (Held a b) Empty p q = p
+readings-both (Held a b) (Held c d) p q = omega (signed, min-parts a c, max-parts b d)
+
+-- An hour that holds a reading or a gap.
+readings-hour : (z : ℤ) → (isReading z || isGap z) ≡ true → Readings (hourRange z)
+readings-hour z h = by (isGap z) h
+  where
+    by : (b : Bool) → (isReading z || b) ≡ true → Readings (cond b Empty (Held z z))
+    by true e = tt
+    by false e =
+        let f : isReading z ≡ true = ⊎-elim (λ p. p) (λ c. clash c) (or-cases (isReading z) false e) in
+        omega (signed, between (negℤ (pos largestReading)) (pos largestReading) z f)
+
+module _ (n : ℕ) (s : List ℤ) (series : Series n s) where
+  readings-at : (t : Timestamp) → Readings (hourRange (hourOf n s t))
+  unfolding hourOf
+  readings-at t = by (ltb (t .0) n) refl
+    where
+      by : (b : Bool) → ltb (t .0) n ≡ b → Readings (hourRange (cond b (getD s (t .0) gap) gap))
+      by true e = readings-hour (getD s (t .0) gap) (series .holds (t .0) (ltb-true (t .0) n e))
+      by false e = tt
+
+  pub readings-look : (ts : List Timestamp) → Readings (look (map (hourOf n s) ts))
+  unfolding look
+  readings-look [] = tt
+  readings-look (t ∷ ts) =
+      readings-both (hourRange (hourOf n s t)) (look (map (hourOf n s) ts)) (readings-at t) (readings-look ts)
+
+  pub readings-range : (l : ℕ) (v : Node) → Readings (rangeOf l n s v)
+  unfolding rangeOf
+  readings-range l v = readings-look (hours l v)

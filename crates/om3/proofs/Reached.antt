@@ -1,0 +1,104 @@
+-- What is reached at a node of the table of a series is the range of the node's hours. Assumes nothing.
+use mathlib.Core.Path.{_≡_, refl, sym, ap, _∙_}
+use mathlib.Core.Bool.{Bool, true, false}
+use mathlib.Core.List.{List}
+use mathlib.Core.Logic.{⊎-elim}
+use Prim.Native.Nat.{ℕ, zero, suc, _+_, _-_, _*_, _/_, _%_, _^_, _≤_, _<_}
+use native.Mathlib.Nat.{two-pow-succ, eq-or-lt-of-le}
+use native.Mathlib.Omega.{arith}
+use lib.IntN.{ℤ}
+use borrow.Author.Tests.{eq-eqb, ne-eqb}
+use Rattle.words.specs.declared.Range.{Range}
+use Rattle.om3.specs.Series.{Series, hour, hourOf}
+use Rattle.om3.specs.Nodes.{Node, root, left, right, start}
+use Rattle.om3.specs.Ranges.{rangeOf}
+use Rattle.om3.specs.Table.{Table, pairCode, tableOf}
+use Rattle.om3.specs.Down.{coefficientAt, rootRange, leftOf, rightOf, reachedAt, reached}
+use Rattle.om3.proofs.Tests.{even-or-odd}
+use Rattle.om3.proofs.Nodes.{InTree, pair-yes, pair-no}
+use Rattle.om3.proofs.Ranges.{Readings, range-halves, readings-range}
+use Rattle.om3.proofs.Down.{left-back, right-back, root-back, first-back, second-back}
+use Rattle.om3.proofs.Places.{root-low, root-high, low-place, high-place, code-place, hour-range}
+
+-- What is reached at a node's halves, in any table.
+module _ (l : ℕ) (t : Table) (v : Node) where
+  pub reached-left : reached l t (left v) ≡ leftOf l t v (reached l t v)
+  unfolding reachedAt
+  reached-left =
+      let h : 2 * v .index / 2 ≡ v .index = omega arith in
+      let e : 2 * v .index % 2 ≡ 0 = omega arith in
+      rw (h, eq-eqb _ _ e)
+
+  pub reached-right : reached l t (right v) ≡ rightOf l t v (reached l t v)
+  unfolding reachedAt
+  reached-right =
+      let h : (2 * v .index + 1) / 2 ≡ v .index = omega arith in
+      let e : (2 * v .index + 1) % 2 ≡ 0 → ⊥ = λ z. omega arith in
+      rw (h, ne-eqb _ _ e)
+
+module _ (l n : ℕ) (s : List ℤ) (series : Series n s) where
+  abbrev T : Table
+  T = tableOf l n s
+
+  abbrev R : Node → Range
+  R v = rangeOf l n s v
+
+  readings : (v : Node) → Readings (R v)
+  readings v = readings-range n s series l v
+
+  module _ (v : Node) (i : InTree l v) where
+    details-left : suc (v .level) < l → leftOf l T v (R v) ≡ R (left v)
+    details-left b =
+        let b′ : v .level < l = omega arith in
+        rw (pair-no l v b, low-place l n s v i b, high-place l n s v i b, range-halves l n s v b′)
+        (left-back (R (left v)) (R (right v)) (readings (left v)) (readings (right v)))
+
+    details-right : suc (v .level) < l → rightOf l T v (R v) ≡ R (right v)
+    details-right b =
+        let b′ : v .level < l = omega arith in
+        rw (pair-no l v b, low-place l n s v i b, high-place l n s v i b, range-halves l n s v b′)
+        (right-back (R (left v)) (R (right v)) (readings (left v)) (readings (right v)))
+
+    abbrev held : Node → ℤ
+    held u = hourOf n s (hour (start l u))
+
+    pair-left : suc (v .level) ≡ l → leftOf l T v (R v) ≡ R (left v)
+    unfolding pairCode
+    pair-left h =
+        let b : v .level < l = omega arith in
+        rw (pair-yes l v h, code-place l n s v i h, range-halves l n s v b)
+        (rw (hour-range l n s (left v) h, hour-range l n s (right v) h)
+        (first-back (held (left v)) (held (right v))))
+
+    pair-right : suc (v .level) ≡ l → rightOf l T v (R v) ≡ R (right v)
+    unfolding pairCode
+    pair-right h =
+        let b : v .level < l = omega arith in
+        rw (pair-yes l v h, code-place l n s v i h, range-halves l n s v b)
+        (rw (hour-range l n s (left v) h, hour-range l n s (right v) h)
+        (second-back (held (left v)) (held (right v))))
+
+    pub step-left : v .level < l → leftOf l T v (R v) ≡ R (left v)
+    step-left b = ⊎-elim pair-left details-left (eq-or-lt-of-le b)
+
+    pub step-right : v .level < l → rightOf l T v (R v) ≡ R (right v)
+    step-right b = ⊎-elim pair-right details-right (eq-or-lt-of-le b)
+
+  module _ (o : 1 ≤ l) where
+    root-range : rootRange (coefficientAt T 0) (coefficientAt T 1) ≡ R root
+    root-range = rw (root-low l n s o, root-high l n s o) (root-back (R root) (readings root))
+
+    -- The law, by induction on the level.
+    pub reached-range : (j k : ℕ) → j ≤ l → k < 2 ^ j → reachedAt l T j k ≡ R (record { level = j; index = k })
+    reached-range zero k le b =
+        let e : k ≡ 0 = omega arith in
+        rw e (unfold reachedAt in root-range)
+    reached-range (suc j) k le b =
+        let b′ : k / 2 < 2 ^ j = omega (arith, two-pow-succ j) in
+        let v : Node = record { level = j; index = k / 2 } in
+        let i : InTree l v = record { deep = omega arith; low = b′ } in
+        let up = reached-range j (k / 2) (i .deep) b′ in
+        ⊎-elim
+        (λ e. rw (← e) (reached-left l T v ∙ rw up (step-left v i le)))
+        (λ e. rw (← e) (reached-right l T v ∙ rw up (step-right v i le)))
+        (even-or-odd k)

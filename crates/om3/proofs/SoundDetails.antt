@@ -1,0 +1,147 @@
+-- What sound root values and a sound node that is not a pair say: its halves join to its range, and they give its
+-- details back. Assumes nothing.
+use mathlib.Core.Path.{_≡_, refl, sym, ap, _∙_}
+use mathlib.Core.Bool.{Bool, true, false, _&&_, _||_}
+use mathlib.Core.Logic.{⊎-elim}
+use lib.Dec.{lit<}
+use lib.IntN.{ℤ, pos, negℤ, _-ℤ_}
+use lib.Signed.{leZ, _≤ℤ_}
+use Rattle.signed.specs.Choice.{minZ, maxZ, isZ}
+use Rattle.signed.proofs.Sums.{sub-parts}
+use Rattle.signed.proofs.Choices.{min-parts, max-parts, isZ-true}
+use Rattle.signed.proofs.Rules.{signed}
+use Rattle.words.specs.Constants.{largestReading, largestDetail, leftMark, rightMark, gapMark, gap}
+use Rattle.words.specs.Said.{lowOf, highOf}
+use Rattle.words.specs.declared.Range.{Range}
+use Rattle.words.specs.declared.Range.the-variants.{Empty, Held}
+use Rattle.om3.specs.Series.{isReading, isGap}
+use Rattle.om3.specs.Ranges.{both}
+use Rattle.om3.specs.Table.{lowDetail, highDetail}
+use Rattle.om3.specs.Down.{leftLow, rightLow, leftHigh, rightHigh, leftHalf, rightHalf}
+use Rattle.om3.specs.Down.{rootRange}
+use Rattle.om3.specs.Sound.{soundRoot, isDetail, ordered, bothAre, soundDetails}
+use Rattle.om3.proofs.Tests.{and-left, and-right, or-cases, between}
+use Rattle.om3.proofs.Ranges.{Readings}
+use Rattle.om3.proofs.Down.{leftLow-parts, rightLow-parts, leftHigh-parts, rightHigh-parts, no-mark}
+
+-- Two ranges are those of a node's halves: they join to its range, and are ranges of readings.
+pub record Halves (r left right : Range) : Type 0 where
+  pub joined : both left right ≡ r
+  pub readings-left : Readings left
+  pub readings-right : Readings right
+
+-- The root values: the range they give is one of readings, and has them as its low and its high.
+pub record RootValues (a b : ℤ) : Type 0 where
+  pub readings : Readings (rootRange a b)
+  pub low : lowOf (rootRange a b) ≡ a
+  pub high : highOf (rootRange a b) ≡ b
+
+-- The low of a range of readings is no gap mark, nor is its high.
+module _ (a b : ℤ) (p : Readings (Held a b)) where
+  pub low-no-gap : isGap a ≡ false
+  low-no-gap = let u : a ≤ℤ pos largestDetail = omega signed in no-mark gapMark a (lit< tt) u
+
+  pub high-no-gap : isGap b ≡ false
+  high-no-gap = let u : b ≤ℤ pos largestDetail = omega signed in no-mark gapMark b (lit< tt) u
+
+  root-held : RootValues a b
+  root-held = record { readings = rw low-no-gap p; low = rw low-no-gap; high = rw low-no-gap }
+
+root-gap : RootValues gap gap
+root-gap = record { readings = tt; low = refl; high = refl }
+
+pub root-values : (a b : ℤ) → soundRoot a b ≡ true → RootValues a b
+root-values a b h =
+    ⊎-elim
+    (λ m.
+    let x = isZ-true gapMark a (and-left (isGap a) (isGap b) m) in
+    let y = isZ-true gapMark b (and-right (isGap a) (isGap b) m) in
+    rw (x, y) root-gap)
+    (λ m.
+    let f = and-left (isReading a && isReading b) (leZ a b) m in
+    let x = between (negℤ (pos largestReading)) (pos largestReading) a (and-left (isReading a) (isReading b) f) in
+    let y = between (negℤ (pos largestReading)) (pos largestReading) b (and-right (isReading a) (isReading b) f) in
+    let z = and-right (isReading a && isReading b) (leZ a b) m in
+    root-held a b (omega signed))
+    (or-cases (isGap a && isGap b) (isReading a && isReading b && leZ a b) h)
+
+-- A node that is not a pair: its halves, and its details given back by them.
+pub record Details (r : Range) (d e : ℤ) : Type 0 where
+  pub halves : Halves r (leftHalf r d e) (rightHalf r d e)
+  pub low : lowDetail (leftHalf r d e) (rightHalf r d e) ≡ d
+  pub high : highDetail (leftHalf r d e) (rightHalf r d e) ≡ e
+
+module _ (a b : ℤ) (p : Readings (Held a b)) where
+  left-alone : Details (Held a b) (pos leftMark) (pos leftMark)
+  left-alone =
+      record { halves = record { joined = refl; readings-left = p; readings-right = tt }; low = refl; high = refl }
+
+  right-alone : Details (Held a b) (pos rightMark) (pos rightMark)
+  right-alone =
+      record { halves = record { joined = refl; readings-left = tt; readings-right = p }; low = refl; high = refl }
+
+  module _ (d e : ℤ) where
+    abbrev La : ℤ
+    La = leftLow a d
+
+    abbrev Ra : ℤ
+    Ra = rightLow a d
+
+    abbrev Lb : ℤ
+    Lb = leftHigh b e
+
+    abbrev Rb : ℤ
+    Rb = rightHigh b e
+
+    module _ (u : d ≤ℤ pos largestDetail) where
+      left-is : leftHalf (Held a b) d e ≡ Held La Lb
+      left-is = rw (no-mark leftMark d (lit< tt) u, no-mark rightMark d (lit< tt) u)
+
+      right-is : rightHalf (Held a b) d e ≡ Held Ra Rb
+      right-is = rw (no-mark leftMark d (lit< tt) u, no-mark rightMark d (lit< tt) u)
+
+      two-halves : leZ La Lb ≡ true → leZ Ra Rb ≡ true → Details (Held a b) d e
+      two-halves hl hr =
+          let lows : minZ La Ra ≡ a = omega (signed, min-parts La Ra, leftLow-parts a d, rightLow-parts a d) in
+          let highs : maxZ Lb Rb ≡ b = omega (signed, max-parts Lb Rb, leftHigh-parts b e, rightHigh-parts b e) in
+          record {
+            halves = record {
+              joined = rw (left-is, right-is) (cc);
+              readings-left = rw left-is (omega (signed, leftLow-parts a d, leftHigh-parts b e));
+              readings-right = rw right-is (omega (signed, rightLow-parts a d, rightHigh-parts b e));
+            };
+            low = rw (left-is, right-is) (omega (signed, sub-parts La Ra, leftLow-parts a d, rightLow-parts a d));
+            high = rw (left-is, right-is) (omega (signed, sub-parts Lb Rb, leftHigh-parts b e, rightHigh-parts b e));
+          }
+
+    held-details : soundDetails (Held a b) d e ≡ true → Details (Held a b) d e
+    held-details h =
+        ⊎-elim
+        (λ m. ⊎-elim
+        (λ f.
+        let x = isZ-true leftMark d (and-left (isZ leftMark d) (isZ leftMark e) f) in
+        let y = isZ-true leftMark e (and-right (isZ leftMark d) (isZ leftMark e) f) in
+        rw (x, y) left-alone)
+        (λ f.
+        let x = isZ-true rightMark d (and-left (isZ rightMark d) (isZ rightMark e) f) in
+        let y = isZ-true rightMark e (and-right (isZ rightMark d) (isZ rightMark e) f) in
+        rw (x, y) right-alone)
+        (or-cases (bothAre leftMark d e) (bothAre rightMark d e) m))
+        (λ m.
+        let L = ordered (leftHalf (Held a b) d e) in
+        let R = ordered (rightHalf (Held a b) d e) in
+        let three = and-left (isDetail d && isDetail e && L) R m in
+        let two = and-left (isDetail d && isDetail e) L three in
+        let u = between (negℤ (pos largestDetail)) (pos largestDetail) d (and-left (isDetail d) (isDetail e) two) .1 in
+        two-halves u (rw (left-is u) at (and-right (isDetail d && isDetail e) L three))
+        (rw (right-is u) at (and-right (isDetail d && isDetail e && L) R m)))
+        (or-cases (bothAre leftMark d e || bothAre rightMark d e) _ h)
+
+pub details : (r : Range) (d e : ℤ) → Readings r → soundDetails r d e ≡ true → Details r d e
+details Empty d e p h =
+    record {
+      halves = record { joined = refl; readings-left = tt; readings-right = tt };
+      low = sym (isZ-true gapMark d (and-left (isZ gapMark d) (isZ gapMark e) h));
+      high = sym (isZ-true gapMark e (and-right (isZ gapMark d) (isZ gapMark e) h));
+    }
+details (Held a b) d e p h = held-details a b p d e h

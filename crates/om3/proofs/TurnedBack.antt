@@ -1,0 +1,164 @@
+-- A sound table is the table of the hours that it turns back to. Assumes nothing.
+use mathlib.Core.Path.{_≡_, refl, sym, ap, _∙_}
+use mathlib.Core.Bool.{Bool, true, false, cond, _||_}
+use mathlib.Core.List.{List, map}
+use mathlib.Core.Logic.{⊎-elim}
+use Prim.Native.Nat.{ℕ, zero, suc, _+_, _-_, _*_, _/_, _%_, _^_, _≤_, _<_}
+use native.Mathlib.Nat.{two-pow-succ, eq-or-lt-of-le}
+use native.Mathlib.Omega.{arith}
+use lib.Dec.{ltb}
+use lib.IntN.{ℤ, pos}
+use lib.ListN.{length, getD, take}
+use lib.Seq.{ext-getD, getD-take, length-take-le}
+use borrow.Author.Tests.{ltb-true, lt-ltb}
+use Rattle.signed.proofs.Parts.{clash}
+use Rattle.words.specs.Constants.{gap}
+use Rattle.words.specs.Said.{lowOf, highOf}
+use Rattle.words.specs.declared.Range.{Range}
+use Rattle.words.specs.declared.Range.the-variants.{Empty, Held}
+use Rattle.om3.specs.Lists.{upFrom}
+use Rattle.om3.specs.Series.{hour, hourOf}
+use Rattle.om3.specs.Nodes.{Node, number, root, left, right, start, nodeOf}
+use Rattle.om3.specs.Ranges.{hourRange, isEmpty, rangeOf}
+use Rattle.om3.specs.Table.{Table, code, coefficient, pairCode, codeOfPlace, tableOf}
+use Rattle.om3.specs.Down.{coefficientAt, lowDetailAt, highDetailAt, codeAt, reachedAt, reached, turnedBack}
+use Rattle.om3.specs.Sound.{gapFrom, soundTable}
+use Rattle.om3.proofs.Tests.{below-or-not, even-or-odd}
+use Rattle.om3.proofs.Lists.{map-up-length, map-up-from-0}
+use Rattle.om3.proofs.Levels.{half-pow}
+use Rattle.om3.proofs.Nodes.{InTree, root-in, left-in, right-in, start-hour, node-of-number}
+use Rattle.om3.proofs.Nodes.{Numbered, numbered}
+use Rattle.om3.proofs.Ranges.{low-hour, range-halves}
+use Rattle.om3.proofs.Places.{coefficient-place, root-low, root-high, low-place, high-place, hour-range}
+use Rattle.om3.proofs.SoundDetails.{root-values}
+use Rattle.om3.proofs.SoundTables.{HourOut, root-sound, node-details, left-details, right-details, node-coded}
+use Rattle.om3.proofs.SoundTables.{left-coded, right-coded, readings-reached, halves-joined, hour-out}
+
+-- What stands at hour k of what a table turns back to.
+pub turned-length : (l : ℕ) (t : Table) (n : ℕ) → length (turnedBack l t n) ≡ n
+unfolding turnedBack
+turned-length l t n = map-up-length (λ k. lowOf (reachedAt l t l k)) 0 n
+
+pub turned-at : (l : ℕ) (t : Table) (n k : ℕ) → k < n → getD (turnedBack l t n) k gap ≡ lowOf (reachedAt l t l k)
+unfolding turnedBack
+turned-at l t n k b = map-up-from-0 (λ k. lowOf (reachedAt l t l k)) gap n k b
+
+module _ (l n : ℕ) (t : Table) (ok : soundTable l n t ≡ true) (o : 1 ≤ l) where
+  abbrev S : List ℤ
+  S = turnedBack l t n
+
+  -- The range of each hour is what was reached there.
+  hour-reached : (k : ℕ) → k < 2 ^ l → hourRange (hourOf n S (hour k)) ≡ reachedAt l t l k
+  unfolding hourOf
+  hour-reached k b = by (ltb k n) refl (hour-out l n t ok o k b .late)
+    where
+      emptied : (r : Range) → isEmpty r ≡ true → Empty ≡ r
+      emptied Empty z = refl
+      emptied (Held a c) z = clash z
+
+      by : (e : Bool) → ltb k n ≡ e → (e || isEmpty (reachedAt l t l k)) ≡ true
+          → hourRange (cond e (getD S k gap) gap) ≡ reachedAt l t l k
+      by true z late = rw (turned-at l t n k (ltb-true k n z)) (hour-out l n t ok o k b .single)
+      by false z late = emptied (reachedAt l t l k) late
+
+  -- The range of each node is what was reached there, from the hours up.
+  ranges-reached : (h : ℕ) (v : Node) → InTree l v → v .level + h ≡ l → rangeOf l n S v ≡ reached l t v
+  ranges-reached zero v i e =
+      let z : v .level ≡ l = omega arith in
+      hour-range l n S v z
+      ∙ rw (start-hour l v z) (hour-reached (v .index) (rw z at (i .low)))
+      ∙ ap (λ (j : ℕ). reachedAt l t j (v .index)) (sym z)
+  ranges-reached (suc h) v i e =
+      let b : v .level < l = omega arith in
+      let e′ : suc (v .level) + h ≡ l = omega arith in
+      rw (
+        range-halves l n S v b,
+        ranges-reached h (left v) (left-in i b) e′,
+        ranges-reached h (right v) (right-in i b) e′,
+      )
+      (halves-joined l n t ok v i b .joined)
+
+  pub range-reached : (v : Node) → InTree l v → rangeOf l n S v ≡ reached l t v
+  range-reached v i = let d = i .deep in ranges-reached (l - v .level) v i (omega arith)
+
+  -- The details of a node that is not a pair are those of the table.
+  module _ (v : Node) (i : InTree l v) (h : suc (v .level) < l) where
+    pub low-same : lowDetailAt (tableOf l n S) (number v) ≡ lowDetailAt t (number v)
+    low-same =
+        let b : v .level < l = omega arith in
+        let p = readings-reached l n t ok v i in
+        low-place l n S v i h
+        ∙ rw (
+          range-reached (left v) (left-in i b),
+          range-reached (right v) (right-in i b),
+          left-details l n t ok v i p h,
+          right-details l n t ok v i p h,
+        )
+        (node-details l n t ok v i p h .low)
+
+    pub high-same : highDetailAt (tableOf l n S) (number v) ≡ highDetailAt t (number v)
+    high-same =
+        let b : v .level < l = omega arith in
+        let p = readings-reached l n t ok v i in
+        high-place l n S v i h
+        ∙ rw (
+          range-reached (left v) (left-in i b),
+          range-reached (right v) (right-in i b),
+          left-details l n t ok v i p h,
+          right-details l n t ok v i p h,
+        )
+        (node-details l n t ok v i p h .high)
+
+  -- The code of a pair is that of the table.
+  held-back : (u : Node) → InTree l u → u .level ≡ l → hourOf n S (hour (start l u)) ≡ lowOf (reached l t u)
+  held-back u i z =
+      sym (low-hour (hourOf n S (hour (start l u)))) ∙ ap lowOf (sym (hour-range l n S u z) ∙ range-reached u i)
+
+  code-same : (v : Node) → InTree l v → suc (v .level) ≡ l → pairCode l n S v ≡ codeAt l t (number v)
+  unfolding pairCode
+  code-same v i h =
+      let b : v .level < l = omega arith in
+      let p = readings-reached l n t ok v i in
+      rw (
+        held-back (left v) (left-in i b) h,
+        held-back (right v) (right-in i b) h,
+        left-coded l n t ok v i p h,
+        right-coded l n t ok v i p h,
+      )
+      (node-coded l n t ok v i p h .back)
+
+  -- So is what stands at each place.
+  details-same : (p : ℕ) → 2 ≤ p → p < 2 ^ l → coefficientAt (tableOf l n S) p ≡ coefficientAt t p
+  details-same p two b =
+      let e : l ≡ suc (l - 1) = omega arith in
+      let b′ : p < 2 ^ suc (l - 1) = rw e at b in
+      let w = numbered (l - 1) (p / 2) (omega arith) (omega (arith, two-pow-succ (l - 1))) in
+      let v = w .node in
+      let i : InTree l v = record { deep = omega (arith, w .above); low = w .low } in
+      let h : suc (v .level) < l = omega (arith, w .above) in
+      ⊎-elim
+      (λ z. let y : 2 * number v .0 ≡ p = omega (arith, w .numbered) in rw (← y) (low-same v i h))
+      (λ z. let y : 2 * number v .0 + 1 ≡ p = omega (arith, w .numbered) in rw (← y) (high-same v i h))
+      (even-or-odd p)
+
+  root-same : rangeOf l n S root ≡ reached l t root
+  root-same = range-reached root (root-in l)
+
+  pub coefficient-same : (p : ℕ) → p < 2 ^ l → coefficientAt (tableOf l n S) p ≡ coefficientAt t p
+  unfolding reachedAt
+  coefficient-same zero b =
+      root-low l n S o ∙ ap lowOf root-same
+      ∙ root-values (coefficientAt t 0) (coefficientAt t 1) (root-sound l n t ok) .low
+  coefficient-same (suc zero) b =
+      root-high l n S o ∙ ap highOf root-same
+      ∙ root-values (coefficientAt t 0) (coefficientAt t 1) (root-sound l n t ok) .high
+  coefficient-same (suc (suc p)) b = details-same (suc (suc p)) (omega arith) b
+
+  pub codes-same : (p : ℕ) → p < 2 ^ l / 2 → codeOfPlace l n S p ≡ getD (t .codes) p 0
+  codes-same p b =
+      let half : 2 ^ l / 2 ≡ 2 ^ (l - 1) = half-pow l o in
+      let v : Node = record { level = l - 1; index = p } in
+      let i : InTree l v = record { deep = omega arith; low = omega arith } in
+      let e : p + 2 ^ l / 2 ≡ number v .0 = omega arith in
+      let d : number v .0 - 2 ^ l / 2 ≡ p = omega arith in
+      rw (e, node-of-number l v i) (code-same v i (omega arith) ∙ ap (λ (q : ℕ). getD (t .codes) q 0) d)

@@ -1,0 +1,57 @@
+-- What is proved of the demands so far, each in one sentence and one statement. The definitions are those of om3/specs,
+-- which transcribe document 01. Assumes nothing.
+use mathlib.Core.Path.{_≡_}
+use mathlib.Core.Bool.{true, false}
+use mathlib.Core.List.{List}
+use mathlib.Core.Logic.{_↔_}
+use Prim.Native.Nat.{ℕ, _≤_, _^_}
+use lib.IntN.{ℤ}
+use Rattle.words.specs.Constants.{largestHours}
+use Rattle.om3.specs.Series.{Series, levels, P}
+use Rattle.om3.specs.Table.{Table, tableOf, HasTable}
+use Rattle.om3.specs.Down.{turnedBack}
+use Rattle.om3.specs.Checks.{passes}
+use Rattle.om3.specs.Sound.{soundTable}
+use Rattle.om3.specs.Refusals.{tableShort, examineTable}
+use Rattle.om3.specs.Numbers.{numbers, unmarked, outside}
+use Rattle.om3.proofs.Levels as levels-laws
+use Rattle.om3.proofs.Examined as examined
+use Rattle.om3.proofs.Demand2 as demand2
+use Rattle.om3.proofs.Numbers.{Holds, numbers-hold, unmarked-hold, outside-hold}
+
+-- P is the smallest power of two that is at least n and at least 2.
+P-at-least-n : (n : ℕ) → n ≤ largestHours → n ≤ P n
+P-at-least-n = levels-laws.n≤P
+
+P-at-least-2 : (n : ℕ) → 2 ≤ P n
+P-at-least-2 = levels-laws.2≤P
+
+P-smallest : (n j : ℕ) → n ≤ 2 ^ j → 2 ≤ 2 ^ j → P n ≤ 2 ^ j
+P-smallest = levels-laws.P-smallest
+
+-- Demand 2: with room lent, a table is sound exactly if some series of n hours has it ..
+sound-exactly : (n : ℕ) → 1 ≤ n → n ≤ largestHours → (t : Table) → tableShort n t ≡ false
+    → (soundTable (levels n) n t ≡ true) ↔ ((s : List ℤ) × Series n s × HasTable n s t)
+sound-exactly = demand2.sound-exactly
+
+-- .. and that series is then the only one.
+only-series : (n : ℕ) (t : Table) (s u : List ℤ) → Series n s → HasTable n s t → Series n u → HasTable n u t → s ≡ u
+only-series = demand2.only-series
+
+-- Demand 2: the table of a series, turned back, gives each reading and each gap at its own hour.
+made-turned : (n : ℕ) (s : List ℤ) → Series n s → turnedBack (levels n) (tableOf (levels n) n s) n ≡ s
+made-turned = demand2.made-turned
+
+-- The examination of a whole table, which names the first unsound node, passes exactly if the table is sound.
+examine-sound : (n : ℕ) (t : Table) → (examineTable n t ≡ passes) ↔ (soundTable (levels n) n t ≡ true)
+examine-sound n = examined.examine-sound (levels n) n
+
+-- Document 01's numbers 1 to 10, whatever codes 9 and 10 leave open; its numbers 11 and 12; documents 003 and 004.
+marked-numbers : (c e : ℕ) → Holds (numbers c e)
+marked-numbers = numbers-hold
+
+unmarked-numbers : Holds unmarked
+unmarked-numbers = unmarked-hold
+
+outside-numbers : Holds outside
+outside-numbers = outside-hold
