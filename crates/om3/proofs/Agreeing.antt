@@ -1,7 +1,7 @@
 -- Two tables that agree at the places of a table of l levels are the same to every definition: what lies beyond is not
 -- looked at. Assumes nothing.
-use mathlib.Core.Path.{_≡_, refl, sym, ap, _∙_}
-use mathlib.Core.Bool.{Bool, true, cond, _&&_}
+use mathlib.Core.Path.{_≡_, _∙_}
+use mathlib.Core.Bool.{true, cond}
 use mathlib.Core.Logic.{⊎-elim}
 use Prim.Native.Nat.{ℕ, zero, suc, _+_, _-_, _*_, _/_, _%_, _^_, _≤_, _<_}
 use native.Mathlib.Nat.{two-pow-succ, eq-or-lt-of-le}
@@ -13,9 +13,9 @@ use Rattle.words.specs.declared.Range.{Range}
 use Rattle.om3.specs.Lists.{every}
 use Rattle.om3.specs.Nodes.{Node, number}
 use Rattle.om3.specs.Table.{Table}
-use Rattle.om3.specs.Down.{coefficientAt, lowDetailAt, highDetailAt, codeAt, rootRange, leftOf, rightOf}
-use Rattle.om3.specs.Down.{reachedAt, reached}
-use Rattle.om3.specs.Sound.{soundRoot, soundNode, tableNodes, soundTable}
+use Rattle.om3.specs.Down.{coefficientAt, lowDetailAt, highDetailAt, codeAt, leftOf, rightOf}
+use Rattle.om3.specs.Down.{reachedAt}
+use Rattle.om3.specs.Sound.{soundRootValues, soundNode, tableNodes, soundTable}
 use Rattle.om3.proofs.Tests.{and-left, and-right, both-true}
 use Rattle.om3.proofs.Nodes.{InTree, pair-yes, pair-no, detail-room, code-room}
 use Rattle.om3.proofs.NodeLists.{table-from-each, each-in-table}
@@ -70,7 +70,7 @@ module _ (l : ℕ) (t u : Table) (same : Agree l t u) where
     pub sound-agrees : (n : ℕ) → soundTable l n u ≡ true → soundTable l n t ≡ true
     unfolding soundTable
     sound-agrees n ok =
-        let R = soundRoot (coefficientAt u 0) (coefficientAt u 1) in
+        let R = soundRootValues (coefficientAt u 0) (coefficientAt u 1) in
         let each = each-in-table l (soundNode l n u) (and-right R (every (soundNode l n u) (tableNodes l)) ok) in
         rw (same .coefficients 0 (pow-pos l), same .coefficients 1 (pow-mono o))
         (both-true {a = R} (and-left R (every (soundNode l n u) (tableNodes l)) ok)

@@ -1,16 +1,16 @@
 -- Laws of the smaller definitions: one level's stretch, joining, the day. Assumes nothing.
-use mathlib.Core.Path.{_≡_, refl, sym, ap, _∙_}
-use mathlib.Core.Bool.{Bool, true, false, cond, not, _&&_, _||_}
-use Prim.Native.Nat.{ℕ, suc, _+_, _-_, _*_, _^_, _≤_, _<_, min}
+use mathlib.Core.Path.{_≡_, refl}
+use mathlib.Core.Bool.{Bool, true, false, cond, not, _||_}
+use Prim.Native.Nat.{ℕ, suc, _+_, _*_, _^_, _≤_, _<_}
 use native.Mathlib.Nat.{two-pow-succ}
 use native.Mathlib.Omega.{arith}
-use lib.Dec.{leb, ltb, eqb}
+use lib.Dec.{leb}
 use lib.Pow.{pow-mono}
 use borrow.Author.Tests.{leb-true, ltb-false, not-true}
-use Rattle.words.specs.Constants.{largestHours, dayHours}
+use Rattle.words.specs.Constants.{dayHours}
 use Rattle.words.specs.declared.Answer.{Answer}
 use Rattle.words.specs.declared.Answer.the-variants.{NoReading, Found}
-use Rattle.om3.specs.Series.{levels, P}
+use Rattle.om3.specs.Series.{badHours, levels, P}
 use Rattle.om3.specs.Nodes.{Node, number}
 use Rattle.om3.specs.Refusals.{short}
 use Rattle.om3.specs.Level.{Stretch, hasLevel, levelStretch}
@@ -29,10 +29,9 @@ stretch-within n j lent = by (hasLevel n j lent) refl
     by : (b : Bool) → hasLevel n j lent ≡ b → at b .from + at b .size ≤ lent
     by false e = omega arith
     by true e =
-        let wrong = eqb n 0 || ltb largestHours n in
-        let bad = wrong || short lent (P n) in
+        let bad = badHours n || short lent (P n) in
         let deep = leb (j + 2) (levels n) in
-        let room = neither wrong (short lent (P n)) (not-true bad (and-left (not bad) deep e)) .1 in
+        let room = neither (badHours n) (short lent (P n)) (not-true bad (and-left (not bad) deep e)) .1 in
         let below : suc (suc j) ≤ levels n = omega (arith, leb-true (j + 2) (levels n) (and-right (not bad) deep e)) in
         omega (arith, ltb-false lent (P n) room, pow-mono below, two-pow-succ j, two-pow-succ (suc j))
 

@@ -1,12 +1,11 @@
 -- A table is sound exactly if some series has it, and that series is the one it turns back to. Assumes nothing.
 use mathlib.Core.Path.{_≡_, refl, sym, ap, _∙_}
-use mathlib.Core.Bool.{Bool, true, false, _||_}
+use mathlib.Core.Bool.{true, false, _||_}
 use mathlib.Core.List.{List}
 use mathlib.Core.Logic.{_↔_}
-use Prim.Native.Nat.{ℕ, suc, _+_, _/_, _^_, _≤_, _<_}
+use Prim.Native.Nat.{ℕ, _/_, _^_, _≤_, _<_}
 use native.Mathlib.Nat.{le-refl}
 use native.Mathlib.Omega.{arith}
-use lib.Dec.{ltb}
 use lib.IntN.{ℤ, pos, negℤ}
 use lib.ListN.{length, getD, take}
 use lib.Seq.{ext-getD, getD-take, length-take-le, take-all}
@@ -19,7 +18,7 @@ use Rattle.words.specs.declared.Range.the-variants.{Empty, Held}
 use Rattle.om3.specs.Series.{isReading, isGap, Series, levels, P, hour, hourOf}
 use Rattle.om3.specs.Nodes.{Node}
 use Rattle.om3.specs.Table.{Table, coefficient, codeOfPlace, tableOf, HasTable}
-use Rattle.om3.specs.Down.{coefficientAt, reachedAt, turnedBack}
+use Rattle.om3.specs.Down.{reachedAt, turnedBack}
 use Rattle.om3.specs.Sound.{soundTable}
 use Rattle.om3.specs.Refusals.{short, tableShort}
 use Rattle.om3.proofs.Tests.{left-true, neither, is-between}

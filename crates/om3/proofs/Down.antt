@@ -1,12 +1,12 @@
 -- Going down from a node's range with its details gives the ranges of its halves, and only they do. Assumes nothing.
-use mathlib.Core.Path.{_≡_, refl, sym, ap, _∙_}
+use mathlib.Core.Path.{_≡_, refl}
 use mathlib.Core.Bool.{Bool, true, false, cond}
 use Prim.Native.Nat.{ℕ, _+_, _-_, _<_}
-use lib.Dec.{eqb, lit<}
+use lib.Dec.{lit<}
 use lib.IntN.{ℤ, pos, negsuc, _+ℤ_, _-ℤ_}
 use lib.Signed.{leZ, ltZ, _≤ℤ_}
 use borrow.Author.Tests.{ne-eqb}
-use Rattle.signed.specs.Choice.{minZ, maxZ, isZ}
+use Rattle.signed.specs.Choice.{minZ, maxZ, isNumber}
 use Rattle.signed.proofs.Parts.{up, dn}
 use Rattle.signed.proofs.Sums.{add-parts, sub-parts}
 use Rattle.signed.proofs.Choices.{min-parts, max-parts}
@@ -56,7 +56,7 @@ rightHigh-parts a d = by (leZ (pos 0) d) refl
     by false e = omega signed
 
 -- A number that is no more than the largest detail is no mark.
-pub no-mark : (k : ℕ) (z : ℤ) → largestDetail < k → z ≤ℤ pos largestDetail → isZ k z ≡ false
+pub no-mark : (k : ℕ) (z : ℤ) → largestDetail < k → z ≤ℤ pos largestDetail → isNumber k z ≡ false
 no-mark k (pos m) b h = ne-eqb m k (λ e. omega signed)
 no-mark k (negsuc m) b h = refl
 

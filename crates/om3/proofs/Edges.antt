@@ -1,11 +1,11 @@
 -- The columns of a window begin at its first hour, end at its end, and each begins where the one before it ends.
 -- Assumes nothing.
-use mathlib.Core.Path.{_≡_, refl, sym, ap, _∙_}
-use Prim.Native.Nat.{ℕ, suc, _+_, _-_, _*_, _/_, _≤_, _<_}
+use mathlib.Core.Path.{_≡_}
+use Prim.Native.Nat.{ℕ, _+_, _-_, _*_, _/_, _≤_}
 use native.Mathlib.Nat.{zero-mul, div-eq-of-lt, mul-add-div, mul-le-mul-right, le-div-iff-mul-le, div-mul-le-self}
 use native.Mathlib.Nat.{le-trans}
 use native.Mathlib.Omega.{arith}
-use Rattle.om3.specs.Columns.{ceil, edge}
+use Rattle.om3.specs.Columns.{edge}
 
 module _ (a b w : ℕ) (some : 1 ≤ w) where
   short : (w - 1) / w ≡ 0

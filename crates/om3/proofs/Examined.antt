@@ -1,49 +1,59 @@
--- Examination passes exactly if every node examined is sound, and one list after another is examined as their join.
--- Assumes nothing.
+-- Checks one after another; the examination of a table passes exactly if every node of it is sound. Assumes nothing.
 use mathlib.Core.Path.{_≡_, refl, sym, ap, _∙_}
 use mathlib.Core.Bool.{Bool, true, false, _&&_}
-use mathlib.Core.List.{List, [], _∷_, _++_}
+use mathlib.Core.List.{List, [], _∷_, _++_, map}
 use mathlib.Core.Logic.{_↔_}
 use Prim.Native.Nat.{ℕ}
 use Rattle.signed.proofs.Parts.{clash}
+use Rattle.words.specs.declared.Refusal.{Refusal}
 use Rattle.words.specs.declared.NodeId.{NodeId}
 use Rattle.om3.specs.Lists.{every}
 use Rattle.om3.specs.Nodes.{Node, number}
 use Rattle.om3.specs.Table.{Table}
 use Rattle.om3.specs.Down.{coefficientAt}
-use Rattle.om3.specs.Checks.{Check, passes, refuses, andThen}
-use Rattle.om3.specs.Sound.{soundRoot, soundNode, tableNodes, soundTable, examined, firstUnsound, examine}
+use Rattle.om3.specs.Checks.{Check, passes, refuses, refuseIf, andThen, inOrder}
+use Rattle.om3.specs.Sound.{soundRootValues, soundNode, tableNodes, soundTable, examineNode, examine}
 
-examined-then : (b : Bool) (i : NodeId) (c d : Check) → examined b i (andThen c d) ≡ andThen (examined b i c) d
-examined-then true i c d = refl
-examined-then false i c d = refl
+-- A first and a second check pass only if both do; a check passes only if its cause is not there.
+pub then-first : (c d : Check) → andThen c d ≡ passes → c ≡ passes
+then-first passes d e = refl
+then-first (refuses r) d e = cc
+
+pub then-second : (c d : Check) → andThen c d ≡ passes → d ≡ passes
+then-second passes d e = e
+then-second (refuses r) d e = cc
+
+pub refuse-not : (b : Bool) (r : Refusal) → refuseIf b r ≡ passes → b ≡ false
+refuse-not true r e = let z : passes ≡ refuses r = sym e in cc
+refuse-not false r e = refl
+
+then-assoc : (c d e : Check) → andThen c (andThen d e) ≡ andThen (andThen c d) e
+then-assoc passes d e = refl
+then-assoc (refuses r) d e = refl
+
+-- Checks in a list and then those of another.
+pub in-order-append : (cs ds : List Check) → inOrder (cs ++ ds) ≡ andThen (inOrder cs) (inOrder ds)
+unfolding inOrder
+in-order-append [] ds = refl
+in-order-append (c ∷ cs) ds = ap (andThen c) (in-order-append cs ds) ∙ then-assoc c (inOrder cs) (inOrder ds)
+
+-- One more node and those after it pass exactly if it is sound and those after it pass.
+node-passes : (i : NodeId) (b : Bool) (c : Check) (rest : Bool) → (c ≡ passes) ↔ (rest ≡ true)
+    → (andThen (examineNode i b) c ≡ passes) ↔ ((b && rest) ≡ true)
+node-passes i true c rest e = e
+node-passes i false c rest e = (λ h. cc, λ h. clash h)
 
 module _ (l n : ℕ) (t : Table) where
-  pub first-unsound-append : (vs us : List Node)
-      → firstUnsound l n t (vs ++ us) ≡ andThen (firstUnsound l n t vs) (firstUnsound l n t us)
-  unfolding firstUnsound
-  first-unsound-append [] us = refl
-  first-unsound-append (v ∷ vs) us =
-      ap (examined (soundNode l n t v) (number v)) (first-unsound-append vs us)
-      ∙ examined-then (soundNode l n t v) (number v) (firstUnsound l n t vs) (firstUnsound l n t us)
-
-  -- Both say the same of a node and of those after it.
-  examined-passes : (b : Bool) (i : NodeId) (c : Check) (rest : Bool) → (c ≡ passes) ↔ (rest ≡ true)
-      → (examined b i c ≡ passes) ↔ ((b && rest) ≡ true)
-  examined-passes true i c rest e = e
-  examined-passes false i c rest e = (λ h. cc, λ h. clash h)
-
-  first-unsound-passes : (vs : List Node) → (firstUnsound l n t vs ≡ passes) ↔ (every (soundNode l n t) vs ≡ true)
-  unfolding firstUnsound every
-  first-unsound-passes [] = (λ h. refl, λ h. refl)
-  first-unsound-passes (v ∷ vs) =
-      examined-passes (soundNode l n t v) (number v) (firstUnsound l n t vs) (every (soundNode l n t) vs)
-      (first-unsound-passes vs)
+  nodes-pass : (vs : List Node)
+      → (inOrder (map (λ v. examineNode (number v) (soundNode l n t v)) vs) ≡ passes)
+      ↔ (every (soundNode l n t) vs ≡ true)
+  unfolding inOrder every
+  nodes-pass [] = (λ h. refl, λ h. refl)
+  nodes-pass (v ∷ vs) = node-passes (number v) (soundNode l n t v) _ (every (soundNode l n t) vs) (nodes-pass vs)
 
   -- A table is taken by its examination exactly if it is sound. [sound 5, 6]
   pub examine-sound : (examine l n t (tableNodes l) ≡ passes) ↔ (soundTable l n t ≡ true)
-  unfolding examine soundTable
+  unfolding examine soundTable inOrder
   examine-sound =
-      examined-passes (soundRoot (coefficientAt t 0) (coefficientAt t 1)) (record { 0 = 0 })
-      (firstUnsound l n t (tableNodes l)) (every (soundNode l n t) (tableNodes l))
-      (first-unsound-passes (tableNodes l))
+      node-passes (record { 0 = 0 }) (soundRootValues (coefficientAt t 0) (coefficientAt t 1)) _
+      (every (soundNode l n t) (tableNodes l)) (nodes-pass (tableNodes l))

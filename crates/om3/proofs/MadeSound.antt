@@ -1,16 +1,15 @@
 -- The table of a series is sound. Assumes nothing.
-use mathlib.Core.Path.{_≡_, refl, sym, ap, _∙_}
+use mathlib.Core.Path.{_≡_, refl, ap, _∙_}
 use mathlib.Core.Bool.{Bool, true, false, cond, _&&_, _||_}
 use mathlib.Core.List.{List}
 use mathlib.Core.Logic.{⊎-elim}
-use Prim.Native.Nat.{ℕ, suc, _≤_, _<_, _^_}
+use Prim.Native.Nat.{ℕ, suc, _≤_, _<_}
 use native.Mathlib.Nat.{eq-or-lt-of-le}
-use native.Mathlib.Omega.{arith}
 use lib.Dec.{ltb}
 use lib.IntN.{ℤ, pos, negℤ, _-ℤ_}
 use lib.Signed.{ltZ}
 use lib.ListN.{getD}
-use Rattle.signed.specs.Choice.{minZ, maxZ, eqZ, isZ}
+use Rattle.signed.specs.Choice.{minZ, maxZ}
 use Rattle.signed.proofs.Sums.{sub-parts}
 use Rattle.signed.proofs.Choices.{min-parts, max-parts, true-eqZ}
 use Rattle.signed.proofs.Rules.{signed}
@@ -19,12 +18,12 @@ use Rattle.words.specs.Said.{lowOf, highOf}
 use Rattle.words.specs.declared.Range.{Range}
 use Rattle.words.specs.declared.Range.the-variants.{Empty, Held}
 use Rattle.om3.specs.Series.{isReading, isGap, Series, hour, hourOf}
-use Rattle.om3.specs.Nodes.{Node, root, left, right, start}
+use Rattle.om3.specs.Nodes.{Node, root, left, right, start, firstHour}
 use Rattle.om3.specs.Ranges.{hourRange, both, rangeOf, isEmpty}
 use Rattle.om3.specs.Table.{Table, lowDetail, highDetail, code, pairCode, tableOf}
-use Rattle.om3.specs.Down.{leftHalf, rightHalf, coefficientAt}
-use Rattle.om3.specs.Sound.{soundRoot, isDetail, ordered, bothAre, soundDetails, soundCode, gapFrom, soundNode}
-use Rattle.om3.specs.Sound.{soundTable}
+use Rattle.om3.specs.Down.{leftHalf, coefficientAt}
+use Rattle.om3.specs.Sound.{isDetail, ordered, bothAre, soundDetails, soundCode, gapFrom, soundNode}
+use Rattle.om3.specs.Sound.{soundRootValues, soundTable}
 use Rattle.om3.proofs.Tests.{both-true, left-true, right-true, is-between}
 use Rattle.om3.proofs.Nodes.{InTree, pair-yes, pair-no}
 use Rattle.om3.proofs.Ranges.{Readings, range-halves, readings-range}
@@ -33,7 +32,7 @@ use Rattle.om3.proofs.Places.{root-low, root-high, low-place, high-plac
 use Rattle.om3.proofs.Reached.{reached-range}
 use Rattle.om3.proofs.NodeLists.{table-from-each}
 
-root-sound : (r : Range) → Readings r → soundRoot (lowOf r) (highOf r) ≡ true
+root-sound : (r : Range) → Readings r → soundRootValues (lowOf r) (highOf r) ≡ true
 root-sound Empty p = refl
 root-sound (Held a b) p =
     right-true (isGap a && isGap b)
@@ -85,7 +84,7 @@ code-sound x y = by (isGap x) (isGap y) (ltZ x y) refl
     by false false false e = refl
 
 -- Hours from n on are gaps.
-late-gap : (n : ℕ) (s : List ℤ) (t : ℕ) → gapFrom n t (hourRange (hourOf n s (hour t))) ≡ true
+late-gap : (n : ℕ) (s : List ℤ) (t : ℕ) → gapFrom n (hour t) (hourRange (hourOf n s (hour t))) ≡ true
 unfolding hourOf
 late-gap n s t = by (ltb t n)
   where
@@ -127,7 +126,7 @@ module _ (l n : ℕ) (s : List ℤ) (series : Series n s) (o : 1 ≤ l) where
           second-back x y,
         )
         (let C = soundCode (both (hourRange x) (hourRange y)) (code x y) in
-        let F = gapFrom n (start l (left v)) (hourRange x) in
+        let F = gapFrom n (firstHour l (left v)) (hourRange x) in
         both-true {a = C && F} (both-true {a = C} (code-sound x y) (late-gap n s (start l (left v))))
         (late-gap n s (start l (right v))))
 
@@ -137,6 +136,6 @@ module _ (l n : ℕ) (s : List ℤ) (series : Series n s) (o : 1 ≤ l) where
   pub made-sound : soundTable l n T ≡ true
   unfolding soundTable
   made-sound =
-      both-true {a = soundRoot (coefficientAt T 0) (coefficientAt T 1)}
+      both-true {a = soundRootValues (coefficientAt T 0) (coefficientAt T 1)}
       (rw (root-low l n s o, root-high l n s o) (root-sound (rangeOf l n s root) (readings-range n s series l root)))
       (table-from-each l (soundNode l n T) node-sound)

@@ -1,13 +1,12 @@
 -- A node's halves: their numbers, their hours, and which nodes are pairs. Assumes nothing.
 use mathlib.Core.Path.{_≡_, refl, sym, ap, _∙_}
 use mathlib.Core.Bool.{true, false}
-use mathlib.Core.List.{List, _++_, map, map-append}
-use mathlib.Core.Logic.{_⊎_, ⊎-elim}
+use mathlib.Core.List.{_++_, map-append}
+use mathlib.Core.Logic.{⊎-elim}
 use Prim.Native.Nat.{ℕ, zero, suc, _+_, _-_, _*_, _/_, _^_, _≤_, _<_}
 use native.Mathlib.Nat.{two-pow-succ, mul-add, add-mul, eq-or-lt-of-le}
 use native.Mathlib.Omega.{arith}
-use lib.Dec.{leb}
-use lib.Pow.{pow-pos, pow-mono}
+use lib.Pow.{pow-mono}
 use borrow.Author.Tests.{le-leb, lt-leb, eq-eqb, ne-eqb}
 use Rattle.words.specs.declared.NodeId.{NodeId}
 use Rattle.om3.specs.Lists.{upFrom}

@@ -8,11 +8,11 @@ use Rattle.om3.specs.Nodes.{width, start, hours, levelOf}
 use Rattle.om3.specs.Ranges.{look, rangeOf}
 use Rattle.om3.specs.Table.{coefficient, pairCode}
 use Rattle.om3.specs.Down.{reachedAt}
-use Rattle.om3.specs.Sound.{soundNode, nodesBelow, firstUnsound, examine}
-use Rattle.om3.specs.Refusals.{firstBadHour}
+use Rattle.om3.specs.Checks.{inOrder}
+use Rattle.om3.specs.Sound.{soundNode, nodesBelow, examine}
+use Rattle.om3.specs.Refusals.{checkReadings}
 use Rattle.om3.specs.Level.{levelStretch}
-use Rattle.om3.specs.Record.{bytesOf, numberFrom, signedFrom, recordOf, asked}
-use Rattle.om3.specs.Record as Record
+use Rattle.om3.specs.Record.{bytesOf, numberFrom, signedFrom, recordOf, openedRecord, askedRecord}
 use Rattle.om3.specs.Columns.{edges}
 use Rattle.om3.specs.Stopped.{shares, inside, opened, visited, countAt, rangeOver, outer, innerNodes, stopped}
 use Rattle.om3.specs.Finished.{walk, walkEnd, lastOr, finished}
@@ -25,9 +25,9 @@ Holds cs = map (λ (c : Case). replyTo (c .question)) cs ≡ map (λ (c : Case).
 
 unfoldable computing : Unit {0}
 unfolding upFrom any every keep firstFrom levels hourOf width start hours levelOf look rangeOf coefficient pairCode
-    reachedAt soundNode nodesBelow firstUnsound examine firstBadHour edges shares inside opened visited countAt
+    reachedAt inOrder soundNode nodesBelow examine checkReadings edges shares inside opened visited countAt
     rangeOver outer innerNodes stopped walk walkEnd lastOr finished dayChange levelStretch bytesOf numberFrom
-    signedFrom recordOf Record.opened asked flatMap
+    signedFrom recordOf openedRecord askedRecord flatMap
 computing = tt
 
 -- The numbers marked [P], 1 to 10.

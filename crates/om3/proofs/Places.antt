@@ -1,20 +1,18 @@
 -- What stands at the places of the table of a series. Assumes nothing.
-use mathlib.Core.Path.{_≡_, refl, sym, ap, _∙_}
-use mathlib.Core.Bool.{true, false}
+use mathlib.Core.Path.{_≡_, ap, _∙_}
 use mathlib.Core.List.{List}
-use Prim.Native.Nat.{ℕ, zero, suc, _+_, _-_, _*_, _/_, _%_, _^_, _≤_, _<_}
+use Prim.Native.Nat.{ℕ, suc, _+_, _-_, _*_, _/_, _%_, _^_, _≤_, _<_}
 use native.Mathlib.Omega.{arith}
-use lib.Dec.{eqb}
 use lib.IntN.{ℤ, pos}
 use lib.Pow.{pow-pos, pow-mono}
-use borrow.Author.Tests.{ne-eqb}
-use Rattle.words.specs.declared.NodeId.{NodeId}
+use borrow.Author.Tests.{eq-eqb, ne-eqb}
 use Rattle.words.specs.Said.{lowOf, highOf}
 use Rattle.om3.specs.Lists.{upFrom}
 use Rattle.om3.specs.Series.{hour, hourOf}
-use Rattle.om3.specs.Nodes.{Node, number, root, left, right, start, hours, nodeOf}
+use Rattle.om3.specs.Nodes.{Node, number, root, left, right, start, hours}
 use Rattle.om3.specs.Ranges.{hourRange, look, rangeOf}
-use Rattle.om3.specs.Table.{Table, lowDetail, highDetail, detail, coefficient, pairCode, codeOfPlace, tableOf}
+use Rattle.om3.specs.Table.{Table, lowDetail, highDetail, lowDetailOf, highDetailOf, coefficient, pairCode}
+use Rattle.om3.specs.Table.{codeOfPlace, tableOf}
 use Rattle.om3.specs.Down.{coefficientAt, lowDetailAt, highDetailAt, codeAt}
 use Rattle.om3.proofs.Lists.{map-up-from-0}
 use Rattle.om3.proofs.Nodes.{InTree, detail-room, pair-half, code-room, width-hour, node-of-number}
@@ -39,25 +37,30 @@ module _ (l n : ℕ) (s : List ℤ) where
 
   -- The details of a node that is not a pair stand at places 2i and 2i + 1.
   module _ (v : Node) (i : InTree l v) (b : suc (v .level) < l) where
-    detail-place : (p which : ℕ) → 2 ≤ p → p < 2 ^ l → p / 2 ≡ number v .0 → p % 2 ≡ which
-        → coefficientAt T p ≡ detail l n s v which
+    pub low-place : lowDetailAt T (number v) ≡ lowDetail (rangeOf l n s (left v)) (rangeOf l n s (right v))
     unfolding coefficient
-    detail-place p which two h half rest =
+    low-place =
+        let p = 2 * number v .0 in
+        let two : 2 ≤ p = omega (arith, pow-pos (v .level)) in
+        let h : p < 2 ^ l = omega (arith, detail-room l v i b) in
         let z : p ≡ 0 → ⊥ = λ e. omega arith in
         let o : p ≡ 1 → ⊥ = λ e. omega arith in
+        let even : p % 2 ≡ 0 = omega arith in
+        let half : p / 2 ≡ number v .0 = omega arith in
         coefficient-place p h
-        ∙ rw (ne-eqb p 0 z, ne-eqb p 1 o, half, rest) (ap (λ (u : Node). detail l n s u which) (node-of-number l v i))
-
-    pub low-place : lowDetailAt T (number v) ≡ lowDetail (rangeOf l n s (left v)) (rangeOf l n s (right v))
-    low-place =
-        let two : 2 ≤ 2 * number v .0 = omega (arith, pow-pos (v .level)) in
-        let h : 2 * number v .0 < 2 ^ l = omega (arith, detail-room l v i b) in
-        detail-place (2 * number v .0) 0 two h (omega arith) (omega arith)
+        ∙ rw (ne-eqb p 0 z, ne-eqb p 1 o, eq-eqb _ _ even, half) (ap (lowDetailOf l n s) (node-of-number l v i))
 
     pub high-place : highDetailAt T (number v) ≡ highDetail (rangeOf l n s (left v)) (rangeOf l n s (right v))
+    unfolding coefficient
     high-place =
-        let two : 2 ≤ 2 * number v .0 + 1 = omega (arith, pow-pos (v .level)) in
-        detail-place (2 * number v .0 + 1) 1 two (detail-room l v i b) (omega arith) (omega arith)
+        let p = 2 * number v .0 + 1 in
+        let two : 2 ≤ p = omega (arith, pow-pos (v .level)) in
+        let z : p ≡ 0 → ⊥ = λ e. omega arith in
+        let o : p ≡ 1 → ⊥ = λ e. omega arith in
+        let odd : p % 2 ≡ 0 → ⊥ = λ e. omega arith in
+        let half : p / 2 ≡ number v .0 = omega arith in
+        coefficient-place p (detail-room l v i b)
+        ∙ rw (ne-eqb p 0 z, ne-eqb p 1 o, ne-eqb _ _ odd, half) (ap (highDetailOf l n s) (node-of-number l v i))
 
   -- The code of pair i stands at place i − P/2.
   pub code-place : (v : Node) → InTree l v → suc (v .level) ≡ l → codeAt l T (number v) ≡ pairCode l n s v

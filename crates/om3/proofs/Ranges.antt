@@ -10,16 +10,16 @@ use lib.IntN.{ℤ, pos, negℤ}
 use lib.Signed.{_≤ℤ_}
 use lib.ListN.{getD}
 use borrow.Author.Tests.{ltb-true}
-use Rattle.signed.specs.Choice.{minZ, maxZ, isZ}
+use Rattle.signed.specs.Choice.{minZ, maxZ}
 use Rattle.signed.proofs.Parts.{clash}
-use Rattle.signed.proofs.Choices.{min-parts, max-parts, isZ-true}
+use Rattle.signed.proofs.Choices.{min-parts, max-parts, isNumber-true}
 use Rattle.signed.proofs.Rules.{signed}
 use Rattle.words.specs.Constants.{largestReading, gapMark, gap}
 use Rattle.words.specs.Said.{lowOf}
 use Rattle.words.specs.declared.Timestamp.{Timestamp}
 use Rattle.words.specs.declared.Range.{Range}
 use Rattle.words.specs.declared.Range.the-variants.{Empty, Held}
-use Rattle.om3.specs.Series.{isReading, isGap, Series, hour, hourOf}
+use Rattle.om3.specs.Series.{isReading, isGap, Series, hourOf}
 use Rattle.om3.specs.Nodes.{Node, left, right, hours}
 use Rattle.om3.specs.Ranges.{hourRange, both, look, rangeOf}
 use Rattle.om3.proofs.Tests.{or-cases, between}
@@ -46,7 +46,7 @@ pub low-hour : (z : ℤ) → lowOf (hourRange z) ≡ z
 low-hour z = by (isGap z) refl
   where
     by : (b : Bool) → isGap z ≡ b → lowOf (cond b Empty (Held z z)) ≡ z
-    by true e = sym (isZ-true gapMark z e)
+    by true e = sym (isNumber-true gapMark z e)
     by false e = refl
 
 -- Two neighbouring stretches of hours: their ranges join.

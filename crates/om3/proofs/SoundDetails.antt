@@ -1,14 +1,14 @@
 -- What sound root values and a sound node that is not a pair say: its halves join to its range, and they give its
 -- details back. Assumes nothing.
-use mathlib.Core.Path.{_≡_, refl, sym, ap, _∙_}
-use mathlib.Core.Bool.{Bool, true, false, _&&_, _||_}
+use mathlib.Core.Path.{_≡_, refl, sym}
+use mathlib.Core.Bool.{true, false, _&&_, _||_}
 use mathlib.Core.Logic.{⊎-elim}
 use lib.Dec.{lit<}
-use lib.IntN.{ℤ, pos, negℤ, _-ℤ_}
+use lib.IntN.{ℤ, pos, negℤ}
 use lib.Signed.{leZ, _≤ℤ_}
-use Rattle.signed.specs.Choice.{minZ, maxZ, isZ}
+use Rattle.signed.specs.Choice.{minZ, maxZ, isNumber}
 use Rattle.signed.proofs.Sums.{sub-parts}
-use Rattle.signed.proofs.Choices.{min-parts, max-parts, isZ-true}
+use Rattle.signed.proofs.Choices.{min-parts, max-parts, isNumber-true}
 use Rattle.signed.proofs.Rules.{signed}
 use Rattle.words.specs.Constants.{largestReading, largestDetail, leftMark, rightMark, gapMark, gap}
 use Rattle.words.specs.Said.{lowOf, highOf}
@@ -19,7 +19,7 @@ use Rattle.om3.specs.Ranges.{both}
 use Rattle.om3.specs.Table.{lowDetail, highDetail}
 use Rattle.om3.specs.Down.{leftLow, rightLow, leftHigh, rightHigh, leftHalf, rightHalf}
 use Rattle.om3.specs.Down.{rootRange}
-use Rattle.om3.specs.Sound.{soundRoot, isDetail, ordered, bothAre, soundDetails}
+use Rattle.om3.specs.Sound.{soundRootValues, isDetail, ordered, bothAre, soundDetails}
 use Rattle.om3.proofs.Tests.{and-left, and-right, or-cases, between}
 use Rattle.om3.proofs.Ranges.{Readings}
 use Rattle.om3.proofs.Down.{leftLow-parts, rightLow-parts, leftHigh-parts, rightHigh-parts, no-mark}
@@ -50,12 +50,12 @@ module _ (a b : ℤ) (p : Readings (Held a b)) where
 root-gap : RootValues gap gap
 root-gap = record { readings = tt; low = refl; high = refl }
 
-pub root-values : (a b : ℤ) → soundRoot a b ≡ true → RootValues a b
+pub root-values : (a b : ℤ) → soundRootValues a b ≡ true → RootValues a b
 root-values a b h =
     ⊎-elim
     (λ m.
-    let x = isZ-true gapMark a (and-left (isGap a) (isGap b) m) in
-    let y = isZ-true gapMark b (and-right (isGap a) (isGap b) m) in
+    let x = isNumber-true gapMark a (and-left (isGap a) (isGap b) m) in
+    let y = isNumber-true gapMark b (and-right (isGap a) (isGap b) m) in
     rw (x, y) root-gap)
     (λ m.
     let f = and-left (isReading a && isReading b) (leZ a b) m in
@@ -119,12 +119,12 @@ module _ (a b : ℤ) (p : Readings (Held a b)) where
         ⊎-elim
         (λ m. ⊎-elim
         (λ f.
-        let x = isZ-true leftMark d (and-left (isZ leftMark d) (isZ leftMark e) f) in
-        let y = isZ-true leftMark e (and-right (isZ leftMark d) (isZ leftMark e) f) in
+        let x = isNumber-true leftMark d (and-left (isNumber leftMark d) (isNumber leftMark e) f) in
+        let y = isNumber-true leftMark e (and-right (isNumber leftMark d) (isNumber leftMark e) f) in
         rw (x, y) left-alone)
         (λ f.
-        let x = isZ-true rightMark d (and-left (isZ rightMark d) (isZ rightMark e) f) in
-        let y = isZ-true rightMark e (and-right (isZ rightMark d) (isZ rightMark e) f) in
+        let x = isNumber-true rightMark d (and-left (isNumber rightMark d) (isNumber rightMark e) f) in
+        let y = isNumber-true rightMark e (and-right (isNumber rightMark d) (isNumber rightMark e) f) in
         rw (x, y) right-alone)
         (or-cases (bothAre leftMark d e) (bothAre rightMark d e) m))
         (λ m.
@@ -141,7 +141,7 @@ pub details : (r : Range) (d e : ℤ) → Readings r → soundDetails r d e ≡ 
 details Empty d e p h =
     record {
       halves = record { joined = refl; readings-left = tt; readings-right = tt };
-      low = sym (isZ-true gapMark d (and-left (isZ gapMark d) (isZ gapMark e) h));
-      high = sym (isZ-true gapMark e (and-right (isZ gapMark d) (isZ gapMark e) h));
+      low = sym (isNumber-true gapMark d (and-left (isNumber gapMark d) (isNumber gapMark e) h));
+      high = sym (isNumber-true gapMark e (and-right (isNumber gapMark d) (isNumber gapMark e) h));
     }
 details (Held a b) d e p h = held-details a b p d e h

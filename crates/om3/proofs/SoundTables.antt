@@ -1,45 +1,48 @@
 -- In a sound table every range reached is one of readings, the ranges of a node's halves join to its own, and hours
 -- come out as single readings or gaps, from hour n on as gaps. Assumes nothing.
-use mathlib.Core.Path.{_≡_, refl, sym, ap, _∙_}
-use mathlib.Core.Bool.{Bool, true, false, _&&_, _||_}
+use mathlib.Core.Path.{_≡_, _∙_}
+use mathlib.Core.Bool.{Bool, true, _&&_}
 use mathlib.Core.Logic.{⊎-elim}
-use Prim.Native.Nat.{ℕ, zero, suc, _+_, _-_, _*_, _/_, _^_, _≤_, _<_}
+use Prim.Native.Nat.{ℕ, zero, suc, _-_, _/_, _^_, _≤_, _<_}
 use native.Mathlib.Nat.{two-pow-succ, eq-or-lt-of-le}
 use native.Mathlib.Omega.{arith}
 use lib.IntN.{ℤ}
 use Rattle.words.specs.Said.{lowOf}
 use Rattle.words.specs.declared.Range.{Range}
 use Rattle.om3.specs.Lists.{every}
-use Rattle.om3.specs.Nodes.{Node, number, root, left, right, start}
+use Rattle.om3.specs.Series.{hour}
+use Rattle.om3.specs.Nodes.{Node, number, left, right, start, firstHour}
 use Rattle.om3.specs.Ranges.{hourRange}
 use Rattle.om3.specs.Table.{Table}
 use Rattle.om3.specs.Down.{leftHalf, rightHalf, firstOfPair, secondOfPair, coefficientAt, lowDetailAt}
 use Rattle.om3.specs.Down.{highDetailAt, codeAt, reachedAt, reached}
-use Rattle.om3.specs.Sound.{soundRoot, soundDetails, soundCode, gapFrom, soundPair, soundNode, tableNodes}
+use Rattle.om3.specs.Sound.{soundRootValues, soundCode, gapFrom, soundPair, soundNode, tableNodes}
 use Rattle.om3.specs.Sound.{soundTable}
 use Rattle.om3.proofs.Tests.{and-left, and-right, even-or-odd}
 use Rattle.om3.proofs.Nodes.{InTree, pair-yes, pair-no, start-hour}
 use Rattle.om3.proofs.Ranges.{Readings}
 use Rattle.om3.proofs.Reached.{reached-left, reached-right}
 use Rattle.om3.proofs.NodeLists.{each-in-table}
-use Rattle.om3.proofs.SoundDetails.{Halves, RootValues, root-values, Details, details}
+use Rattle.om3.proofs.SoundDetails.{Halves, root-values, Details, details}
 use Rattle.om3.proofs.SoundCodes.{Coded, coded}
 
 -- A single hour as it comes out: one reading or a gap, and from hour n on a gap.
 pub record HourOut (n k : ℕ) (r : Range) : Type 0 where
   pub single : hourRange (lowOf r) ≡ r
-  pub late : gapFrom n k r ≡ true
+  pub late : gapFrom n (hour k) r ≡ true
 
 module _ (l n : ℕ) (t : Table) (ok : soundTable l n t ≡ true) where
-  pub root-sound : soundRoot (coefficientAt t 0) (coefficientAt t 1) ≡ true
+  pub root-sound : soundRootValues (coefficientAt t 0) (coefficientAt t 1) ≡ true
   unfolding soundTable
-  root-sound = and-left (soundRoot (coefficientAt t 0) (coefficientAt t 1)) _ ok
+  root-sound = and-left (soundRootValues (coefficientAt t 0) (coefficientAt t 1)) _ ok
 
   node-sound : (v : Node) → InTree l v → v .level < l → soundNode l n t v ≡ true
   unfolding soundTable
   node-sound v i b =
       each-in-table l (soundNode l n t)
-      (and-right (soundRoot (coefficientAt t 0) (coefficientAt t 1)) (every (soundNode l n t) (tableNodes l)) ok) v i b
+      (and-right (soundRootValues (coefficientAt t 0) (coefficientAt t 1))
+      (every (soundNode l n t) (tableNodes l)) ok)
+      v i b
 
   -- One node, whose own range is one of readings.
   module _ (v : Node) (i : InTree l v) (p : Readings (reached l t v)) where
@@ -76,10 +79,10 @@ module _ (l n : ℕ) (t : Table) (ok : soundTable l n t ≡ true) where
       C = soundCode (reached l t v) c
 
       abbrev F : Bool
-      F = gapFrom n (start l (left v)) (firstOfPair (reached l t v) c)
+      F = gapFrom n (firstHour l (left v)) (firstOfPair (reached l t v) c)
 
       abbrev S : Bool
-      S = gapFrom n (start l (right v)) (secondOfPair (reached l t v) c)
+      S = gapFrom n (firstHour l (right v)) (secondOfPair (reached l t v) c)
 
       pub node-coded : Coded (reached l t v) c
       node-coded = coded (reached l t v) c p (and-left C F (and-left (C && F) S pair-sound))

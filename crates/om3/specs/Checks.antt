@@ -2,6 +2,7 @@
 --
 --   Check          a check passes, or refuses the call
 --   refuseIf b r   the check that refuses by r exactly when b is true
+--   andThen c d    the first check, and where it passes the second
 --   inOrder cs     the first check of a list that refuses decides; where all pass, the call is taken
 use mathlib.Core.Bool.{Bool, true, false}
 use mathlib.Core.List.{List, [], _∷_}
@@ -19,6 +20,6 @@ abbrev pub andThen : Check → Check → Check
 andThen passes next = next
 andThen (refuses r) next = refuses r
 
-abbrev pub inOrder : List Check → Check
+unfoldable pub inOrder : List Check → Check
 inOrder [] = passes
 inOrder (c ∷ cs) = andThen c (inOrder cs)

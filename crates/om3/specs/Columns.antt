@@ -1,6 +1,8 @@
 -- Document 01, "Columns": the edges of a window's columns. Assumes nothing.
 --
 --   Column             hours from `from` up to, not including, `upto`
+--   ceil x w           x / w rounded up
+--   edge a b w k       the first hour of column k of the window [a, b) in w columns
 --   column a b w k     column k of the window [a, b) drawn in w columns
 --   inColumn x t       whether hour t is in column x
 --   columnHours x      the hours of a column, in order
@@ -14,7 +16,7 @@ use Rattle.words.specs.declared.Timestamp.{Timestamp}
 use Rattle.words.specs.declared.Edges.{Edges}
 use Rattle.om3.specs.Series.{hour, hoursFrom}
 use Rattle.om3.specs.Checks.{Check, passes, refuses}
-use Rattle.om3.specs.Refusals.{columnEdges}
+use Rattle.om3.specs.Refusals.{edgesChecks}
 
 -- x / w rounded up.
 abbrev pub ceil : ℕ → ℕ → ℕ
@@ -49,4 +51,4 @@ edgesBy passes x = Edges.Hours (x .from) (x .upto)
 edgesBy (refuses why) x = Edges.Refused why
 
 unfoldable pub edges : (n a b w k : ℕ) → Edges
-edges n a b w k = edgesBy (columnEdges n a b w k) (column a b w k)
+edges n a b w k = edgesBy (edgesChecks n a b w k) (column a b w k)

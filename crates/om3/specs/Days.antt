@@ -2,11 +2,9 @@
 --
 --   day n d           the hours of day d of n hours
 --   dayChange n t d   what the call for the day change answers
-use mathlib.Core.Bool.{cond}
 use Prim.Native.Nat.{ℕ, _+_, _*_, min}
-use lib.IntN.{ℤ, _-ℤ_}
+use lib.IntN.{_-ℤ_}
 use Rattle.words.specs.Constants.{dayHours}
-use Rattle.words.specs.declared.Summary.{Summary}
 use Rattle.words.specs.declared.Answer.{Answer}
 use Rattle.words.specs.declared.DayChange.{DayChange}
 use Rattle.om3.specs.Series.{levels, hour}

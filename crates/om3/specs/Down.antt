@@ -4,16 +4,19 @@
 --   leftHigh a d, rightHigh a d   highs of the halves of a node with high a and high detail d
 --   leftHalf, rightHalf           ranges of the halves of a node with a range and two details, marks included
 --   firstOfPair, secondOfPair     ranges of the two hours of a pair with a range and a code
---   reached l t v                 the range reached at node v
---   turnedBack l n t              what the n hours come out as
-use mathlib.Core.Bool.{Bool, cond}
+--   coefficientAt t p             the coefficient at place p; codeAt, lowDetailAt, highDetailAt by a node's number
+--   rootRange a b                 the range that the root values a and b give node 1
+--   leftOf l t v r, rightOf       from the range r of node v to those of its halves, in the table t
+--   reached l t v                 the range reached at node v; reachedAt l t j k, at node k of level j
+--   turnedBack l t n              what the n hours come out as
+use mathlib.Core.Bool.{cond}
 use mathlib.Core.List.{List, map}
 use Prim.Native.Nat.{ℕ, zero, suc, _+_, _-_, _*_, _/_, _%_, _^_}
 use lib.Dec.{eqb}
 use lib.IntN.{ℤ, pos, _+ℤ_, _-ℤ_}
 use lib.Signed.{leZ}
 use lib.ListN.{getD}
-use Rattle.signed.specs.Choice.{isZ}
+use Rattle.signed.specs.Choice.{isNumber}
 use Rattle.words.specs.Constants.{leftMark, rightMark}
 use Rattle.words.specs.Said.{lowOf}
 use Rattle.words.specs.declared.NodeId.{NodeId}
@@ -44,15 +47,15 @@ rightHigh a d = cond (leZ (pos 0) d) (a -ℤ d) a
 abbrev pub leftHalf : Range → ℤ → ℤ → Range
 leftHalf Empty d e = Empty
 leftHalf (Held a b) d e =
-    cond (isZ leftMark d) (Held a b)
-    (cond (isZ rightMark d) Empty
+    cond (isNumber leftMark d) (Held a b)
+    (cond (isNumber rightMark d) Empty
     (Held (leftLow a d) (leftHigh b e)))
 
 abbrev pub rightHalf : Range → ℤ → ℤ → Range
 rightHalf Empty d e = Empty
 rightHalf (Held a b) d e =
-    cond (isZ rightMark d) (Held a b)
-    (cond (isZ leftMark d) Empty
+    cond (isNumber rightMark d) (Held a b)
+    (cond (isNumber leftMark d) Empty
     (Held (rightLow a d) (rightHigh b e)))
 
 -- The first hour of a pair is the high at code 0 and the low at codes 1 and 2; at any other code it is a gap. [table 6]
@@ -76,7 +79,7 @@ lowDetailAt t i = coefficientAt t (2 * i .0)
 abbrev pub highDetailAt : Table → NodeId → ℤ
 highDetailAt t i = coefficientAt t (2 * i .0 + 1)
 
--- The code of pair i stands at place i − P/2. [table 6]
+-- The code of pair i stands at place i − P/2. Past the end it reads 0 as well. [table 6]
 abbrev pub codeAt : ℕ → Table → NodeId → ℕ
 codeAt l t i = getD (t .codes) (i .0 - 2 ^ l / 2) 0
 
@@ -110,6 +113,6 @@ module _ (l : ℕ) (t : Table) where
   abbrev pub reached : Node → Range
   reached v = reachedAt (v .level) (v .index)
 
-  -- Hour t is node t of level l; an empty one is a gap. [hours 9]
+  -- Hour k is node k of level l; an empty one is a gap. [hours 9]
   unfoldable pub turnedBack : ℕ → List ℤ
   turnedBack n = map (λ k. lowOf (reachedAt l k)) (upFrom 0 n)

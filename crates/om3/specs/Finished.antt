@@ -1,19 +1,21 @@
 -- Document 01, "Columns": the finished answer of a column x in a table t of l levels. Assumes nothing.
 --
+--   Walk                            a walk down to a single hour: its starting node, and the half it takes at a node
+--   levelsOf l w                    how many levels it walks down
+--   nodesOf l w, endOf l w          the nodes it walks through, from the starting node down to the pair; its end
 --   towardsFirst v, towardsLast v   the half that the walk to the first, and to the last, reading takes
---   walk f h v, walkEnd f h v       the nodes walked from v by h steps of f, the end left out; the end
 --   earliest, latest                the earliest and the latest non-empty inside visited node
---   answer, count                   what a finished column says, and its count of visited nodes
+--   walks r                         the walks of a column with the range r, in their order
+--   answer, count                   what a finished column says, and its count
 --   examineFinished n               the examination of a finished column in a table of n hours
 --   finished n t a b w k            what the call for a finished column answers
-use mathlib.Core.Bool.{Bool, cond}
-use mathlib.Core.List.{List, [], _∷_, _++_}
+use mathlib.Core.Bool.{cond}
+use mathlib.Core.List.{List, [], _∷_, _++_, map, flatMap}
 use Prim.Native.Nat.{ℕ, zero, suc, _+_, _-_}
 use Rattle.words.specs.Said.{lowOf}
 use Rattle.words.specs.declared.Range.{Range}
 use Rattle.words.specs.declared.Range.the-variants.{Empty, Held}
 use Rattle.words.specs.declared.Reading.{Reading}
-use Rattle.words.specs.declared.Summary.{Summary}
 use Rattle.words.specs.declared.Answer.{Answer}
 use Rattle.words.specs.declared.Finished.{Finished}
 use Rattle.om3.specs.Series.{levels, hour}
@@ -22,18 +24,32 @@ use Rattle.om3.specs.Table.{Table}
 use Rattle.om3.specs.Down.{reached}
 use Rattle.om3.specs.Checks.{Check, passes, refuses}
 use Rattle.om3.specs.Sound.{examine}
-use Rattle.om3.specs.Refusals.{columnChecks}
+use Rattle.om3.specs.Refusals.{tableShort, checkRoom, columnChecks}
 use Rattle.om3.specs.Columns.{Column, column, noHour}
 use Rattle.om3.specs.Stopped.{hasReading, openedNodes, countAt, innerNodes, inner}
 
--- The nodes on a walk of h steps from v, v first.
+pub record Walk : Type 0 where
+  pub from : Node
+  pub half : Node → Node
+
+-- The nodes on a walk of h steps from v, v first and its end left out; its end.
 unfoldable pub walk : (Node → Node) → ℕ → Node → List Node
-walk f zero v = []
-walk f (suc h) v = v ∷ walk f h (f v)
+walk half zero v = []
+walk half (suc h) v = v ∷ walk half h (half v)
 
 unfoldable pub walkEnd : (Node → Node) → ℕ → Node → Node
-walkEnd f zero v = v
-walkEnd f (suc h) v = walkEnd f h (f v)
+walkEnd half zero v = v
+walkEnd half (suc h) v = walkEnd half h (half v)
+
+-- Down to the hours: l minus the level of the starting node. [columns 15]
+abbrev pub levelsOf : ℕ → Walk → ℕ
+levelsOf l w = l - w .from .level
+
+abbrev pub nodesOf : ℕ → Walk → List Node
+nodesOf l w = walk (w .half) (levelsOf l w) (w .from)
+
+abbrev pub endOf : ℕ → Walk → Node
+endOf l w = walkEnd (w .half) (levelsOf l w) (w .from)
 
 -- The first and the last node of a list; v where it has none.
 abbrev pub firstOr : Node → List Node → Node
@@ -43,6 +59,10 @@ firstOr v (u ∷ us) = u
 unfoldable pub lastOr : Node → List Node → Node
 lastOr v [] = v
 lastOr v (u ∷ us) = lastOr u us
+
+abbrev pub sum : List ℕ → ℕ
+sum [] = 0
+sum (m ∷ ms) = m + sum ms
 
 module _ (l : ℕ) (t : Table) (x : Column) where
   -- To the first: the left half if it has a reading, else the right; to the last the other way round. [columns 17]
@@ -59,25 +79,30 @@ module _ (l : ℕ) (t : Table) (x : Column) where
   abbrev pub latest : Node
   latest = lastOr root (innerNodes l t x l)
 
-  -- Walked down to the first reading: from the starting node down to the pair; likewise to the last. [columns 16]
-  abbrev pub firstWalk : List Node
-  firstWalk = walk towardsFirst (l - earliest .level) earliest
+  abbrev pub firstWalk : Walk
+  firstWalk = record { from = earliest; half = towardsFirst }
 
-  abbrev pub lastWalk : List Node
-  lastWalk = walk towardsLast (l - latest .level) latest
+  abbrev pub lastWalk : Walk
+  lastWalk = record { from = latest; half = towardsLast }
+
+  -- The walk to the first reading, then that to the last; none without a reading. [columns 15, 16]
+  abbrev pub walks : Range → List Walk
+  walks Empty = []
+  walks (Held low high) = firstWalk ∷ lastWalk ∷ []
 
   -- The reading of a single hour: hour k is node k of level l. [hours 9]
   abbrev pub readingAt : Node → Reading
   readingAt v = record { hour = hour (v .index); grams = lowOf (reached l t v) }
 
-  -- First and last reading, each with its hour, low and high; or no reading. [columns 13, 14]
+  -- First and last reading, each with its hour, and the low and the high of the inner range; or no reading.
+  -- [columns 13, 14]
   abbrev pub answerOver : Range → Answer
   answerOver Empty = Answer.NoReading
   answerOver (Held low high) =
       Answer.Found
       (record {
-        first = readingAt (walkEnd towardsFirst (l - earliest .level) earliest);
-        last = readingAt (walkEnd towardsLast (l - latest .level) latest);
+        first = readingAt (endOf l firstWalk);
+        last = readingAt (endOf l lastWalk);
         low = low;
         high = high;
       })
@@ -85,23 +110,16 @@ module _ (l : ℕ) (t : Table) (x : Column) where
   abbrev pub answer : Answer
   answer = answerOver (inner l t x l)
 
-  -- The count of depth l; if there is a reading, plus l minus the level of the earliest node and of the latest.
-  -- [columns 15]
-  abbrev pub countOver : Range → ℕ
-  countOver Empty = countAt l t x l
-  countOver (Held low high) = countAt l t x l + (l - earliest .level) + (l - latest .level)
-
+  -- The count of depth l, plus one node for each level walked down. [columns 15]
   abbrev pub count : ℕ
-  count = countOver (inner l t x l)
+  count = countAt l t x l + sum (map (levelsOf l) (walks (inner l t x l)))
 
-  abbrev pub walksOver : Range → List Node
-  walksOver Empty = []
-  walksOver (Held low high) = firstWalk ++ lastWalk
-
-  -- Node 0, the opened nodes, the walk to the first, the walk to the last; no node for a column without an hour.
-  -- Where the nodes examined are sound, unsound ones elsewhere change nothing. [columns 5, 16, 18]
+  -- Node 0, the opened nodes, then the walks; no node for a column without an hour. Where the nodes examined are sound,
+  -- unsound ones elsewhere change nothing. [columns 5, 16, 18]
   abbrev pub examineFinished : ℕ → Check
-  examineFinished n = cond (noHour x) passes (examine l n t (openedNodes l t x l ++ walksOver (inner l t x l)))
+  examineFinished n =
+      cond (noHour x) passes
+      (examine l n t (openedNodes l t x l ++ flatMap (nodesOf l) (walks (inner l t x l))))
 
   -- A column without an hour answers "no reading", count 0. [columns 5]
   abbrev pub finishedBy : Check → Finished
@@ -112,4 +130,5 @@ module _ (l : ℕ) (t : Table) (x : Column) where
 unfoldable pub finished : (n : ℕ) (t : Table) (a b w k : ℕ) → Finished
 finished n t a b w k =
     let x = column a b w k in
-    finishedBy (levels n) t x (columnChecks n t a b w k [] (examineFinished (levels n) t x n))
+    finishedBy (levels n) t x
+    (columnChecks n (checkRoom (tableShort n t)) a b w k [] (examineFinished (levels n) t x n))

@@ -1,8 +1,7 @@
 -- Document 01, "Columns": joining two answers. Assumes nothing.
 --
---   joined a b   the answer of the left hours a and the right hours b together
+--   joined a b   the answer a of the left hours and the answer b of the right hours, together
 use Rattle.signed.specs.Choice.{minZ, maxZ}
-use Rattle.words.specs.declared.Summary.{Summary}
 use Rattle.words.specs.declared.Answer.{Answer}
 use Rattle.words.specs.declared.Answer.the-variants.{NoReading, Found}
 

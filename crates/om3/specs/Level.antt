@@ -1,16 +1,16 @@
 -- Document 01, "One level, single coefficients": one level's details. Assumes nothing.
 --
 --   Stretch           places from `from` up to, not including, from + size
+--   hasLevel          whether there is a level j of details
 --   levelStretch      the places of level j's details in a table lent as coefficients for n hours
 --   levelPart         that stretch of the lent coefficients itself
 use mathlib.Core.Bool.{Bool, cond, not, _&&_, _||_}
 use mathlib.Core.List.{List}
 use Prim.Native.Nat.{ℕ, _+_, _*_, _^_}
-use lib.Dec.{leb, ltb, eqb}
+use lib.Dec.{leb}
 use lib.IntN.{ℤ}
 use lib.ListN.{length, take, drop}
-use Rattle.words.specs.Constants.{largestHours}
-use Rattle.om3.specs.Series.{levels, P}
+use Rattle.om3.specs.Series.{badHours, levels, P}
 use Rattle.om3.specs.Refusals.{short}
 
 pub record Stretch : Type 0 where
@@ -19,7 +19,7 @@ pub record Stretch : Type 0 where
 
 -- A level is there for j up to l − 2, if n is 1 to 16,384 and the coefficients are not too short. [level 1, 2]
 abbrev pub hasLevel : (n j lent : ℕ) → Bool
-hasLevel n j lent = not (eqb n 0 || ltb largestHours n || short lent (P n)) && leb (j + 2) (levels n)
+hasLevel n j lent = not (badHours n || short lent (P n)) && leb (j + 2) (levels n)
 
 -- Places 2·2^j to 4·2^j − 1; any other level, and the causes of 1 and 3, give a stretch of length 0. [level 1, 2]
 unfoldable pub levelStretch : (n j lent : ℕ) → Stretch

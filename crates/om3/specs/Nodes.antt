@@ -6,15 +6,18 @@
 --   root             node 1
 --   left v, right v  its halves
 --   isPair l v       whether it is a pair
+--   width l v        how many hours it covers
+--   start l v        the number of the first; firstHour l v, that hour
 --   hours l v        the hours it covers, in order
---   nodeOf l i       the node that has number i, for i from 1 to 2·2^l − 1
+--   levelOf l i      the level of the node that has number i, for i from 1 to 2·2^l − 1
+--   nodeOf l i       that node
 use mathlib.Core.Bool.{Bool, cond}
 use mathlib.Core.List.{List}
 use Prim.Native.Nat.{ℕ, zero, suc, _+_, _-_, _*_, _^_}
 use lib.Dec.{leb, eqb}
 use Rattle.words.specs.declared.Timestamp.{Timestamp}
 use Rattle.words.specs.declared.NodeId.{NodeId}
-use Rattle.om3.specs.Series.{hoursFrom}
+use Rattle.om3.specs.Series.{hour, hoursFrom}
 
 -- Node k of level j: level j has the nodes 0 to 2^j − 1. [hours 6]
 pub record Node : Type 0 where
@@ -47,6 +50,9 @@ width l v = 2 ^ (l - v .level)
 -- .. from hour k·2^(l−j) on. [hours 7]
 unfoldable pub start : ℕ → Node → ℕ
 start l v = v .index * 2 ^ (l - v .level)
+
+abbrev pub firstHour : ℕ → Node → Timestamp
+firstHour l v = hour (start l v)
 
 unfoldable pub hours : ℕ → Node → List Timestamp
 hours l v = hoursFrom (start l v) (width l v)

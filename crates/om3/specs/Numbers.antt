@@ -8,18 +8,18 @@
 --   outside           worked examples of documents 003 and 004
 --   further           where document 01 leaves room or an error comes easily
 use mathlib.Core.List.{List, [], _∷_, _++_}
-use Prim.Native.Nat.{ℕ, _+_, _-_, _*_}
+use Prim.Native.Nat.{ℕ, _-_, _*_}
 use lib.IntN.{ℤ, pos, negℤ}
-use lib.ListN.{length, replicate}
+use lib.ListN.{replicate}
 use Rattle.words.specs.Constants.{gap}
-use Rattle.words.specs.Said.{Said, refusing, taking, saidOfFinished, saidOfStopped, saidOfEdges, saidOfDayChange}
-use Rattle.words.specs.Said.{saidOfOpening, saidOfAsking}
+use Rattle.words.specs.Said.{Said, taken, refused as refusedBy}
+use Rattle.words.specs.Said.{saidOfFinished, saidOfStopped, saidOfEdges, saidOfDayChange, saidOfOpening, saidOfAsking}
 use Rattle.om3.specs.Series.{levels}
 use Rattle.om3.specs.Table.{Table, tableOf}
 use Rattle.om3.specs.Checks.{Check, passes, refuses}
-use Rattle.om3.specs.Refusals.{making, turningBack}
+use Rattle.om3.specs.Refusals.{makingChecks, turningBackChecks}
 use Rattle.om3.specs.Level.{levelPart}
-use Rattle.om3.specs.Record.{recordLength, recordSize, recordOf, opened, asked}
+use Rattle.om3.specs.Record.{recordLength, recordSize, recordOf, openedRecord, askedRecord}
 use Rattle.om3.specs.Columns.{edges}
 use Rattle.om3.specs.Stopped.{stopped}
 use Rattle.om3.specs.Finished.{finished}
@@ -57,25 +57,25 @@ abbrev tableFrom : ℕ → List ℤ → Table
 tableFrom n s = tableOf (levels n) n s
 
 abbrev saidOfCheck : Check → Said
-saidOfCheck passes = taking []
-saidOfCheck (refuses why) = refusing why
+saidOfCheck passes = taken []
+saidOfCheck (refuses why) = refusedBy why
 
 -- The reply by the definitions.
 abbrev pub replyTo : Question → Reply
 replyTo (tableFor n s) = table (tableFrom n s .coefficients) (tableFrom n s .codes)
-replyTo (makingFor n s) = says (saidOfCheck (making n s (tableFrom n s)))
-replyTo (turningFor n cs ks) = says (saidOfCheck (turningBack n (record { coefficients = cs; codes = ks }) n))
+replyTo (makingFor n s) = says (saidOfCheck (makingChecks n s (tableFrom n s)))
+replyTo (turningFor n cs ks) = says (saidOfCheck (turningBackChecks n (record { coefficients = cs; codes = ks }) n))
 replyTo (finishedFor n s a b w k) = says (saidOfFinished (finished n (tableFrom n s) a b w k))
 replyTo (stoppedFor n s a b w k d) = says (saidOfStopped (stopped n (tableFrom n s) a b w k d))
 replyTo (dayFor n s d) = says (saidOfDayChange (dayChange n (tableFrom n s) d))
 replyTo (finishedIn n cs ks a b w k) =
     says (saidOfFinished (finished n (record { coefficients = cs; codes = ks }) a b w k))
-replyTo (levelFor n j cs) = says (taking (levelPart n j cs))
+replyTo (levelFor n j cs) = says (taken (levelPart n j cs))
 replyTo (recordFor n s) = bytes (recordOf n (tableFrom n s))
-replyTo (openFor r) = says (saidOfOpening (opened r))
-replyTo (askFor r p) = says (saidOfAsking (asked r p))
+replyTo (openFor r) = says (saidOfOpening (openedRecord r))
+replyTo (askFor r p) = says (saidOfAsking (askedRecord r p))
 replyTo (edgesFor n a b w k) = says (saidOfEdges (edges n a b w k))
-replyTo (sizeFor n) = says (taking (pos (recordLength n) ∷ pos (recordSize n) ∷ []))
+replyTo (sizeFor n) = says (taken (pos (recordLength n) ∷ pos (recordSize n) ∷ []))
 
 pub record Case : Type 0 where
   pub question : Question
@@ -95,21 +95,21 @@ abbrev -g : ℕ → ℤ
 -- A column as the printer prints it, with the hours of its first and its last reading.
 abbrev printed : (firstHour lastHour first last low high count : ℕ) → Reply
 printed t u x y low high count =
-    says (taking (pos count ∷ pos t ∷ g x ∷ pos u ∷ g y ∷ g low ∷ g high ∷ []))
+    says (taken (pos t ∷ g x ∷ pos u ∷ g y ∷ g low ∷ g high ∷ pos count ∷ []))
 
 -- A column at a depth, with both ranges; without the inner one.
 abbrev ranges : (outerLow outerHigh innerLow innerHigh count : ℕ) → Reply
-ranges a b c d count = says (taking (pos count ∷ g a ∷ g b ∷ g c ∷ g d ∷ []))
+ranges a b c d count = says (taken (g a ∷ g b ∷ g c ∷ g d ∷ pos count ∷ []))
 
 abbrev outerAlone : (outerLow outerHigh count : ℕ) → Reply
-outerAlone a b count = says (taking (pos count ∷ g a ∷ g b ∷ gap ∷ gap ∷ []))
+outerAlone a b count = says (taken (g a ∷ g b ∷ gap ∷ gap ∷ pos count ∷ []))
 
 abbrev refused : (number place : ℕ) → Reply
 refused m p = says (record { number = m; place = p; values = [] })
 
 -- The hours from a up to, not including, b.
 abbrev hoursOf : (a b : ℕ) → Reply
-hoursOf a b = says (taking (pos a ∷ pos b ∷ []))
+hoursOf a b = says (taken (pos a ∷ pos b ∷ []))
 
 -- The printer's seven hours. [printer 9]
 abbrev pub seven : List ℤ
@@ -145,6 +145,8 @@ numbers c e =
     -- 8
     ∷ (edgesFor 2 0 2 4 1 is hoursOf 1 1)
     ∷ (edgesFor 2 0 2 4 3 is hoursOf 2 2)
+    ∷ (finishedFor 2 (g 7 ∷ g 9 ∷ []) 0 2 4 1 is says (taken (pos 0 ∷ [])))
+    ∷ (stoppedFor 2 (g 7 ∷ g 9 ∷ []) 0 2 4 3 0 is says (taken (gap ∷ gap ∷ gap ∷ gap ∷ pos 0 ∷ [])))
     -- 9
     ∷ (turningFor 2 (g 5 ∷ g 4 ∷ []) (c ∷ []) is refused 4 0)
     ∷ (turningFor 2 (g 5 ∷ g 5 ∷ []) (1 ∷ []) is refused 4 1)
@@ -162,16 +164,17 @@ unmarked =
     -- 11
     (makingFor 3 (g 0 ∷ -g 1000000 ∷ g 1000001 ∷ []) is refused 2 2)
     ∷ (edgesFor 16385 0 1 1 0 is refused 1 0)
+    ∷ (stoppedFor 7 seven 0 7 3 0 3 is ranges 41200 41350 41200 41350 7)
     ∷ (stoppedFor 7 seven 0 7 3 0 4 is refused 7 0)
     ∷ (edgesFor 7 0 7 4096 4095 is hoursOf 7 7)
     ∷ (edgesFor 7 0 7 4097 0 is refused 6 0)
     -- 12
-    ∷ (dayFor 26 days 0 is says (taking (g 600 ∷ [])))
-    ∷ (dayFor 26 days 1 is says (taking (g 100 ∷ [])))
+    ∷ (dayFor 26 days 0 is says (taken (g 600 ∷ [])))
+    ∷ (dayFor 26 days 1 is says (taken (g 100 ∷ [])))
     ∷ (dayFor 26 days 2 is refused 5 0)
     -- the house record
-    ∷ (sizeFor 2 is says (taking (pos 10 ∷ pos 14 ∷ [])))
-    ∷ (sizeFor 16384 is says (taking (pos 57347 ∷ pos 57351 ∷ [])))
+    ∷ (sizeFor 2 is says (taken (pos 10 ∷ pos 14 ∷ [])))
+    ∷ (sizeFor 16384 is says (taken (pos 57347 ∷ pos 57351 ∷ [])))
     ∷ []
 
 -- Document 003's Figure 3, and document 004's cut of 64 hours in three columns. [columns 3]
@@ -198,12 +201,13 @@ late =
 abbrev fourteen : List ℕ
 fourteen = 0 ∷ 0 ∷ 0 ∷ 10 ∷ 1 ∷ 0 ∷ 1 ∷ 255 ∷ 254 ∷ 12 ∷ 255 ∷ 254 ∷ 12 ∷ 2 ∷ []
 
+-- Examples of our own, and of where document 01 leaves room.
 abbrev pub further : List Case
 further =
     -- the first hour of a column is a gap: its first reading is a later one [errors 3]
     (finishedFor 4 (gap ∷ g 5 ∷ g 6 ∷ g 7 ∷ []) 0 4 1 0 is printed 1 3 5 7 5 7 5)
     -- a column without an hour: no reading, count 0 [columns 5]
-    ∷ (finishedFor 4 (gap ∷ g 5 ∷ g 6 ∷ g 7 ∷ []) 1 2 4 1 is says (taking (pos 0 ∷ [])))
+    ∷ (finishedFor 4 (gap ∷ g 5 ∷ g 6 ∷ g 7 ∷ []) 1 2 4 1 is says (taken (pos 0 ∷ [])))
     -- all below the left half before the right half: pair 4 before node 3 [sound 6]
     ∷ (turningFor 8 (g 1 ∷ g 8 ∷ -g 4 ∷ -g 4 ∷ -g 2 ∷ -g 2 ∷ gap ∷ -g 2 ∷ []) (9 ∷ 1 ∷ 1 ∷ 1 ∷ []) is refused 4 4)
     -- one mark alone, and code 2 with low < high, are unsound [sound 3, 4]
@@ -216,12 +220,12 @@ further =
     -- a reading at hour 12 of a series of 9 hours is found at its pair [sound 4]
     ∷ (turningFor 9 late (4 ∷ 4 ∷ 4 ∷ 4 ∷ 4 ∷ 4 ∷ 2 ∷ 4 ∷ []) is refused 4 14)
     -- level 1 of the printer's seven hours; there is no level 2 of details [level 1, 2]
-    ∷ (levelFor 7 1 (tableFrom 7 seven .coefficients) is says (taking (g 300 ∷ g 450 ∷ g 2000001 ∷ g 2000001 ∷ [])))
-    ∷ (levelFor 7 2 (tableFrom 7 seven .coefficients) is says (taking []))
+    ∷ (levelFor 7 1 (tableFrom 7 seven .coefficients) is says (taken (g 300 ∷ g 450 ∷ g 2000001 ∷ g 2000001 ∷ [])))
+    ∷ (levelFor 7 2 (tableFrom 7 seven .coefficients) is says (taken []))
     -- the house record byte by byte [record 1, 2, 3, 4, 5, 6]
     ∷ (recordFor 1 (-g 500 ∷ []) is bytes fourteen)
-    ∷ (openFor fourteen is says (taking (pos 1 ∷ pos 2 ∷ [])))
+    ∷ (openFor fourteen is says (taken (pos 1 ∷ pos 2 ∷ [])))
     ∷ (openFor (fourteen ++ 0 ∷ []) is refused 11 0)
-    ∷ (askFor fourteen 1 is says (taking (-g 500 ∷ [])))
+    ∷ (askFor fourteen 1 is says (taken (-g 500 ∷ [])))
     ∷ (askFor fourteen 2 is refused 13 0)
     ∷ []

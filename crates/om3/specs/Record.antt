@@ -5,10 +5,15 @@
 --   threeBytes z, signedFrom bs     z in three bytes, two's complement; the number that three bytes spell
 --   recordLength n, recordSize n    the length field for n hours; how many bytes the whole record has
 --   recordOf n t                    the record of a table
---   hoursIn r, tableIn r            the hours and the table that the bytes r of a record state
---   writing, unpacking, opening     the checks of writing, reading and opening, in order
---   opened r, asked r p             what opening answers, and asking for the coefficient at place p
-use mathlib.Core.Bool.{Bool, cond, not, _||_}
+--   bytesAt r p w                   the w bytes of r from place p on
+--   lengthIn, versionIn, hoursIn    what the fields of a record state
+--   coefficientIn r p, tableIn r    the coefficient at place p, and the whole table, that the bytes state
+--   writingChecks, openingChecks,   the checks of writing, opening and reading, in order
+--   readingChecks
+--   openedRecord r                  what opening answers
+--   askedView r places p            what a view of the bytes r and of P = places answers when asked for place p
+--   askedRecord r p                 what a record answers when it is opened and asked for place p
+use mathlib.Core.Bool.{cond, not, _||_}
 use mathlib.Core.List.{List, [], _∷_, _++_, map, flatMap}
 use Prim.Native.Nat.{ℕ, zero, suc, _+_, _-_, _*_, _/_, _%_, _^_}
 use lib.Dec.{leb, ltb, eqb}
@@ -59,7 +64,10 @@ recordOf n t =
 abbrev pub bytesAt : List ℕ → ℕ → ℕ → List ℕ
 bytesAt r p w = take w (drop p r)
 
--- What the fields of a record state. [record 2, 3, 4]
+-- The fields before the coefficients: length, version and n. [record 2, 3, 4]
+abbrev pub headerSize : ℕ
+headerSize = 4 + 1 + 2
+
 abbrev pub lengthIn : List ℕ → ℕ
 lengthIn r = numberFrom (bytesAt r 0 4)
 
@@ -71,25 +79,25 @@ hoursIn r = numberFrom (bytesAt r 5 2)
 
 -- The coefficient at place p, straight from the bytes. [record 5] [level 3]
 abbrev pub coefficientIn : List ℕ → ℕ → ℤ
-coefficientIn r p = signedFrom (bytesAt r (7 + 3 * p) 3)
+coefficientIn r p = signedFrom (bytesAt r (headerSize + 3 * p) 3)
 
 -- The whole table. [record 5, 6]
 unfoldable pub tableIn : List ℕ → Table
 tableIn r = record {
   coefficients = map (coefficientIn r) (upFrom 0 (P (hoursIn r)));
-  codes = bytesAt r (7 + 3 * P (hoursIn r)) (P (hoursIn r) / 2);
+  codes = bytesAt r (headerSize + 3 * P (hoursIn r)) (P (hoursIn r) / 2);
 }
 
 -- Writing a record: 1, 3, 4, with `lent` bytes lent for it. [refusals 15, 18]
-abbrev pub writing : ℕ → Table → ℕ → Check
-writing n t lent =
+abbrev pub writingChecks : ℕ → Table → ℕ → Check
+writingChecks n t lent =
     inOrder (checkHours n ∷ checkRoom (tableShort n t || short lent (recordSize n)) ∷ examineTable n t ∷ [])
 
 -- Under 7 bytes 8; then 9, 1, 10; fewer bytes than stated 8; more 11. [refusals 8, 9, 10, 11, 19]
-abbrev pub opening : List ℕ → Check
-opening r =
+abbrev pub openingChecks : List ℕ → Check
+openingChecks r =
     inOrder
-    (refuseIf (ltb (length r) 7) CutShort
+    (refuseIf (ltb (length r) headerSize) CutShort
     ∷ refuseIf (not (eqb (versionIn r) version)) BadVersion
     ∷ checkHours (hoursIn r)
     ∷ refuseIf (not (eqb (lengthIn r) (recordLength (hoursIn r)))) BadLength
@@ -98,22 +106,30 @@ opening r =
     ∷ [])
 
 -- Reading: the checks of opening, then 3 and 4. The lent buffers are to hold the table. [refusals 19]
-abbrev pub unpacking : List ℕ → Table → Check
-unpacking r lent =
-    inOrder (opening r ∷ checkRoom (tableShort (hoursIn r) lent) ∷ examineTable (hoursIn r) (tableIn r) ∷ [])
+abbrev pub readingChecks : List ℕ → Table → Check
+readingChecks r lent =
+    inOrder (openingChecks r ∷ checkRoom (tableShort (hoursIn r) lent) ∷ examineTable (hoursIn r) (tableIn r) ∷ [])
 
 -- Opening makes the reading checks except 3 and 4, and answers n and P. [level 3]
 abbrev pub openedBy : Check → List ℕ → Opening
 openedBy passes r = Opening.Record (hoursIn r) (P (hoursIn r))
 openedBy (refuses why) r = Opening.Refused why
 
-unfoldable pub opened : List ℕ → Opening
-opened r = openedBy (opening r) r
+unfoldable pub openedRecord : List ℕ → Opening
+openedRecord r = openedBy (openingChecks r) r
 
--- A place from P on gets 13. [level 3] [refusals 13]
+-- A place from P on gets 13; then one that the bytes do not reach, which no opened record has, gets 8.
+-- [level 3] [refusals 8, 13]
+abbrev pub viewChecks : List ℕ → (places p : ℕ) → Check
+viewChecks r places p =
+    inOrder (refuseIf (leb places p) BadPlace ∷ refuseIf (ltb (length r) (headerSize + 3 * p + 3)) CutShort ∷ [])
+
 abbrev pub askedBy : Check → List ℕ → ℕ → Asking
 askedBy passes r p = Asking.Coefficient (coefficientIn r p)
 askedBy (refuses why) r p = Asking.Refused why
 
-unfoldable pub asked : List ℕ → ℕ → Asking
-asked r p = askedBy (inOrder (opening r ∷ refuseIf (leb (P (hoursIn r)) p) BadPlace ∷ [])) r p
+unfoldable pub askedView : List ℕ → (places p : ℕ) → Asking
+askedView r places p = askedBy (viewChecks r places p) r p
+
+unfoldable pub askedRecord : List ℕ → ℕ → Asking
+askedRecord r p = askedBy (inOrder (openingChecks r ∷ viewChecks r (P (hoursIn r)) p ∷ [])) r p

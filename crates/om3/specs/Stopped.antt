@@ -2,9 +2,14 @@
 -- t of l levels. Assumes nothing.
 --
 --   hasReading, shares, inside   a node has a reading; shares an hour with the column; lies wholly inside it
+--   above v                      the node of which v is a half
 --   opened d v, visited d v      a node is opened, is visited, at depth d
+--   openedNodes d                the opened nodes in the order of examination
 --   countAt d                    the count at depth d
+--   rangeOver vs                 the least low and the greatest high over some nodes
 --   outer d, inner d             the two ranges at depth d; an absent one is empty
+--   innerNodes d                 the nodes of the inner range, in the order of their hours
+--   examineOpened n d            the examination of a column at depth d, in a table of n hours
 --   stopped n t a b w k d        what the call for a column at a depth answers
 use mathlib.Core.Bool.{Bool, cond, not, _&&_, _||_}
 use mathlib.Core.List.{List, [], _∷_}
@@ -12,7 +17,7 @@ use Prim.Native.Nat.{ℕ, _+_, _-_, _*_, _/_}
 use lib.Dec.{ltb, eqb}
 use lib.ListN.{length}
 use Rattle.words.specs.declared.Range.{Range}
-use Rattle.words.specs.declared.Range.the-variants.{Empty, Held}
+use Rattle.words.specs.declared.Range.the-variants.{Empty}
 use Rattle.words.specs.declared.Stopped.{Stopped}
 use Rattle.om3.specs.Lists.{any, every, keep}
 use Rattle.om3.specs.Series.{levels}
@@ -22,7 +27,7 @@ use Rattle.om3.specs.Table.{Table}
 use Rattle.om3.specs.Down.{reached}
 use Rattle.om3.specs.Checks.{Check, passes, refuses}
 use Rattle.om3.specs.Sound.{allNodes, examine}
-use Rattle.om3.specs.Refusals.{columnChecks, checkDepth}
+use Rattle.om3.specs.Refusals.{tableShort, checkRoom, checkDepth, columnChecks}
 use Rattle.om3.specs.Columns.{Column, column, inColumn, noHour}
 
 -- The node above: v is one of its halves.
@@ -57,7 +62,7 @@ module _ (l : ℕ) (t : Table) (x : Column) where
   unfoldable pub countAt : ℕ → ℕ
   countAt d = 1 + 2 * length (openedNodes d)
 
-  -- The least low and the greatest high over the nodes of a list.
+  -- The least low and the greatest high over the nodes of a list; over no node it is absent. [columns 12]
   unfoldable pub rangeOver : List Node → Range
   rangeOver [] = Empty
   rangeOver (v ∷ vs) = both (reached l t v) (rangeOver vs)
@@ -80,12 +85,12 @@ module _ (l : ℕ) (t : Table) (x : Column) where
   abbrev pub inner : ℕ → Range
   inner d = rangeOver (innerNodes d)
 
-  -- Node 0, then the opened nodes in the order of examination; no node at all for a column without an hour.
-  -- [columns 5, 16]
+  -- Node 0, then the opened nodes in the order of examination; no node at all for a column without an hour. Where the
+  -- nodes examined are sound, unsound ones elsewhere change nothing. [columns 5, 16, 18]
   abbrev pub examineOpened : (n d : ℕ) → Check
   examineOpened n d = cond (noHour x) passes (examine l n t (openedNodes d))
 
-  -- A column without an hour has count 0 and both ranges absent. [columns 5, 12]
+  -- A column without an hour has count 0 and both ranges absent. [columns 5]
   abbrev pub stoppedBy : Check → ℕ → Stopped
   stoppedBy passes d =
       cond (noHour x) (Stopped.Ranges Empty Empty 0) (Stopped.Ranges (outer d) (inner d) (countAt d))
@@ -96,4 +101,4 @@ unfoldable pub stopped : (n : ℕ) (t : Table) (a b w k d : ℕ) → Stopped
 stopped n t a b w k d =
     let x = column a b w k in
     stoppedBy (levels n) t x
-    (columnChecks n t a b w k (checkDepth n d ∷ []) (examineOpened (levels n) t x n d)) d
+    (columnChecks n (checkRoom (tableShort n t)) a b w k (checkDepth n d ∷ []) (examineOpened (levels n) t x n d)) d

@@ -8,7 +8,7 @@ use lib.Signed.{leZ}
 use mir.Syntax.{w32}
 use mir.Val.{SFits, ofZ}
 use borrow.Author.Tests.{eqb-true, eq-eqb, ne-eqb}
-use Rattle.signed.specs.Choice.{minZ, maxZ, eqZ, isZ}
+use Rattle.signed.specs.Choice.{minZ, maxZ, eqZ, isNumber}
 use Rattle.signed.proofs.Parts.{up, dn, ≡-parts, parts-≡, leZ-true, leZ-false, true-leZ, clash}
 
 pub min-parts : (a b : ℤ) → up (minZ a b) + (dn a + dn b) ≡ min (up a + dn b) (up b + dn a) + dn (minZ a b)
@@ -40,18 +40,18 @@ min-≡ a b h = parts-≡ (omega (arith, min-parts a b))
 pub max-≡ : (a b : ℤ) {z : ℤ} → up z + (dn a + dn b) ≡ max (up a + dn b) (up b + dn a) + dn z → z ≡ maxZ a b
 max-≡ a b h = parts-≡ (omega (arith, max-parts a b))
 
-pub isZ-true : (k : ℕ) (z : ℤ) → isZ k z ≡ true → z ≡ pos k
-isZ-true k (pos n) e = ap pos (eqb-true n k e)
-isZ-true k (negsuc n) e = clash e
+pub isNumber-true : (k : ℕ) (z : ℤ) → isNumber k z ≡ true → z ≡ pos k
+isNumber-true k (pos n) e = ap pos (eqb-true n k e)
+isNumber-true k (negsuc n) e = clash e
 
 -- A test of the machine compares bits: of a number that fits they are those of k exactly if it is k.
-pub isZ-yes : (k : ℕ) (z : ℤ) → k < 2 ^ 31 → SFits w32 z → ofZ w32 z ≡ k → isZ k z ≡ true
-isZ-yes k (pos n) h f e = eq-eqb n k e
-isZ-yes k (negsuc n) h f e = absurd (omega (arith, f .sfits))
+pub isNumber-yes : (k : ℕ) (z : ℤ) → k < 2 ^ 31 → SFits w32 z → ofZ w32 z ≡ k → isNumber k z ≡ true
+isNumber-yes k (pos n) h f e = eq-eqb n k e
+isNumber-yes k (negsuc n) h f e = absurd (omega (arith, f .sfits))
 
-pub isZ-no : (k : ℕ) (z : ℤ) → (ofZ w32 z ≡ k → ⊥) → isZ k z ≡ false
-isZ-no k (pos n) h = ne-eqb n k h
-isZ-no k (negsuc n) h = refl
+pub isNumber-no : (k : ℕ) (z : ℤ) → (ofZ w32 z ≡ k → ⊥) → isNumber k z ≡ false
+isNumber-no k (pos n) h = ne-eqb n k h
+isNumber-no k (negsuc n) h = refl
 
 -- Two numbers that pass the test of equality are equal, and equal numbers pass it.
 pub eqZ-true : (a b : ℤ) → eqZ a b ≡ true → a ≡ b

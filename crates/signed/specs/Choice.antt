@@ -2,8 +2,8 @@
 --
 --   minZ a b, maxZ a b   the lesser and the greater of a and b
 --   eqZ a b              whether a and b are the same number
---   isZ k z              whether z is the natural number k
-use mathlib.Core.Bool.{Bool, true, false, cond, _&&_}
+--   isNumber k z              whether z is the natural number k
+use mathlib.Core.Bool.{Bool, false, cond, _&&_}
 use Prim.Native.Nat.{ℕ}
 use lib.Dec.{eqb}
 use lib.IntN.{ℤ, pos, negsuc}
@@ -22,6 +22,6 @@ abbrev pub eqZ : ℤ → ℤ → Bool
 eqZ a b = leZ a b && leZ b a
 
 -- Whether a number is the natural number k.
-abbrev pub isZ : ℕ → ℤ → Bool
-isZ k (pos n) = eqb n k
-isZ k (negsuc n) = false
+abbrev pub isNumber : ℕ → ℤ → Bool
+isNumber k (pos n) = eqb n k
+isNumber k (negsuc n) = false

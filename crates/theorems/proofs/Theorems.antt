@@ -13,11 +13,11 @@ use Rattle.om3.specs.Down.{turnedBack}
 use Rattle.om3.specs.Checks.{passes}
 use Rattle.om3.specs.Sound.{soundTable}
 use Rattle.om3.specs.Refusals.{tableShort, examineTable}
-use Rattle.om3.specs.Numbers.{numbers, unmarked, outside}
+use Rattle.om3.specs.Numbers.{numbers, unmarked, outside, further}
 use Rattle.om3.proofs.Levels as levels-laws
 use Rattle.om3.proofs.Examined as examined
 use Rattle.om3.proofs.Demand2 as demand2
-use Rattle.om3.proofs.Numbers.{Holds, numbers-hold, unmarked-hold, outside-hold}
+use Rattle.om3.proofs.Numbers.{Holds, numbers-hold, unmarked-hold, outside-hold, further-hold}
 
 -- P is the smallest power of two that is at least n and at least 2.
 P-at-least-n : (n : ℕ) → n ≤ largestHours → n ≤ P n
@@ -46,7 +46,8 @@ made-turned = demand2.made-turned
 examine-sound : (n : ℕ) (t : Table) → (examineTable n t ≡ passes) ↔ (soundTable (levels n) n t ≡ true)
 examine-sound n = examined.examine-sound (levels n) n
 
--- Document 01's numbers 1 to 10, whatever codes 9 and 10 leave open; its numbers 11 and 12; documents 003 and 004.
+-- Document 01's numbers 1 to 10, whatever codes 9 and 10 leave open; its numbers 11 and 12; documents 003 and 004; and
+-- where document 01 leaves room or an error comes easily.
 marked-numbers : (c e : ℕ) → Holds (numbers c e)
 marked-numbers = numbers-hold
 
@@ -55,3 +56,6 @@ unmarked-numbers = unmarked-hold
 
 outside-numbers : Holds outside
 outside-numbers = outside-hold
+
+further-numbers : Holds further
+further-numbers = further-hold

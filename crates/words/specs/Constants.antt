@@ -1,4 +1,9 @@
 -- The numbers of document 01, once each. The code has the same in src/lib.rt. Assumes nothing.
+--
+--   largestLevel, largestHours         the largest l and the largest n
+--   largestReading, largestDetail      the largest reading and the largest detail; the least are their negatives
+--   leftMark, rightMark, gapMark, gap  the marks; gap is the last as a signed number, what a gap holds
+--   mostColumns, dayHours, version     the most columns of a window, the hours of a day, the record's version
 use Prim.Native.Nat.{ℕ, _^_}
 use lib.IntN.{ℤ, pos}
 

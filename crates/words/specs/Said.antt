@@ -4,20 +4,18 @@
 --   numberOf r, placeOf r   the number and the place of a refusal
 --   lowOf r, highOf r       the low and the high of a range, 2,000,003 where it is empty
 --   Said                    an answer in document 01's numbers; `saidOf..` gives it for each type of answer
-use mathlib.Core.List.{List, [], _∷_}
+--   refused r, taken vs     a refusal as `Said`; a call that is taken, with its values
+--   valuesOf a              the values of a finished column without its count; none where there is no reading
+use mathlib.Core.List.{List, [], _∷_, _++_}
 use Prim.Native.Nat.{ℕ}
 use lib.IntN.{ℤ, pos}
 use Rattle.words.specs.Constants.{gap}
-use Rattle.words.specs.declared.Timestamp.{Timestamp}
-use Rattle.words.specs.declared.NodeId.{NodeId}
 use Rattle.words.specs.declared.Range.{Range}
 use Rattle.words.specs.declared.Range.the-variants.{Empty, Held}
 use Rattle.words.specs.declared.Refusal.{Refusal}
 use Rattle.words.specs.declared.Refusal.the-variants.{BadHours, BadReading, ShortBuffer, Unsound, BadWindow}
 use Rattle.words.specs.declared.Refusal.the-variants.{BadColumn, TooDeep, CutShort, BadVersion, BadLength}
 use Rattle.words.specs.declared.Refusal.the-variants.{BytesAfter, BadLine, BadPlace}
-use Rattle.words.specs.declared.Reading.{Reading}
-use Rattle.words.specs.declared.Summary.{Summary}
 use Rattle.words.specs.declared.Answer.{Answer}
 use Rattle.words.specs.declared.Finished.{Finished}
 use Rattle.words.specs.declared.Stopped.{Stopped}
@@ -45,7 +43,8 @@ numberOf BytesAfter = 11
 numberOf (BadLine i) = 12
 numberOf BadPlace = 13
 
--- Its place: an hour, a node's number, a line counted from 1, else 0. [refusals 2, 4, 12]
+-- Its place: an hour, a node's number, a line counted from 1, else 0.
+-- [refusals 1, 2, 3, 4, 5, 6, 7, 8, 9, 10, 11, 12, 13]
 abbrev pub placeOf : Refusal → ℕ
 placeOf BadHours = 0
 placeOf (BadReading t) = t .0
@@ -77,11 +76,12 @@ pub record Said : Type 0 where
   pub place : ℕ
   pub values : List ℤ
 
-abbrev pub refusing : Refusal → Said
-refusing r = record { number = numberOf r; place = placeOf r; values = [] }
+-- A refusal returns number and place. [refusals 14]
+abbrev pub refused : Refusal → Said
+refused r = record { number = numberOf r; place = placeOf r; values = [] }
 
-abbrev pub taking : List ℤ → Said
-taking vs = record { number = 0; place = 0; values = vs }
+abbrev pub taken : List ℤ → Said
+taken vs = record { number = 0; place = 0; values = vs }
 
 -- First hour and reading, last hour and reading, low, high; nothing where there is no reading. [columns 13, 14]
 abbrev pub valuesOf : Answer → List ℤ
@@ -89,40 +89,43 @@ valuesOf Answer.NoReading = []
 valuesOf (Answer.Found s) =
     pos (s .first .hour .0) ∷ s .first .grams ∷ pos (s .last .hour .0) ∷ s .last .grams ∷ s .low ∷ s .high ∷ []
 
+abbrev pub saidOfAnswer : Answer → Said
+saidOfAnswer answer = taken (valuesOf answer)
+
 abbrev pub saidOfFinished : Finished → Said
-saidOfFinished (Finished.Answered answer count) = taking (pos count ∷ valuesOf answer)
-saidOfFinished (Finished.Refused r) = refusing r
+saidOfFinished (Finished.Answered answer count) = taken (valuesOf answer ++ pos count ∷ [])
+saidOfFinished (Finished.Refused r) = refused r
 
 abbrev pub saidOfStopped : Stopped → Said
 saidOfStopped (Stopped.Ranges outer inner count) =
-    taking (pos count ∷ lowOf outer ∷ highOf outer ∷ lowOf inner ∷ highOf inner ∷ [])
-saidOfStopped (Stopped.Refused r) = refusing r
+    taken (lowOf outer ∷ highOf outer ∷ lowOf inner ∷ highOf inner ∷ pos count ∷ [])
+saidOfStopped (Stopped.Refused r) = refused r
 
 abbrev pub saidOfTaking : Taking → Said
-saidOfTaking Taking.Taken = taking []
-saidOfTaking (Taking.Refused r) = refusing r
+saidOfTaking Taking.Taken = taken []
+saidOfTaking (Taking.Refused r) = refused r
 
 abbrev pub saidOfEdges : Edges → Said
-saidOfEdges (Edges.Hours from upto) = taking (pos (from .0) ∷ pos (upto .0) ∷ [])
-saidOfEdges (Edges.Refused r) = refusing r
+saidOfEdges (Edges.Hours from upto) = taken (pos (from .0) ∷ pos (upto .0) ∷ [])
+saidOfEdges (Edges.Refused r) = refused r
 
 abbrev pub saidOfDayChange : DayChange → Said
-saidOfDayChange DayChange.NoReading = taking []
-saidOfDayChange (DayChange.Grams g) = taking (g ∷ [])
-saidOfDayChange (DayChange.Refused r) = refusing r
+saidOfDayChange DayChange.NoReading = taken []
+saidOfDayChange (DayChange.Grams g) = taken (g ∷ [])
+saidOfDayChange (DayChange.Refused r) = refused r
 
 abbrev pub saidOfWriting : Writing → Said
-saidOfWriting (Writing.Bytes b) = taking (pos b ∷ [])
-saidOfWriting (Writing.Refused r) = refusing r
+saidOfWriting (Writing.Bytes b) = taken (pos b ∷ [])
+saidOfWriting (Writing.Refused r) = refused r
 
 abbrev pub saidOfUnpacking : Unpacking → Said
-saidOfUnpacking (Unpacking.Hours n) = taking (pos n ∷ [])
-saidOfUnpacking (Unpacking.Refused r) = refusing r
+saidOfUnpacking (Unpacking.Hours n) = taken (pos n ∷ [])
+saidOfUnpacking (Unpacking.Refused r) = refused r
 
 abbrev pub saidOfOpening : Opening → Said
-saidOfOpening (Opening.Record n p) = taking (pos n ∷ pos p ∷ [])
-saidOfOpening (Opening.Refused r) = refusing r
+saidOfOpening (Opening.Record n p) = taken (pos n ∷ pos p ∷ [])
+saidOfOpening (Opening.Refused r) = refused r
 
 abbrev pub saidOfAsking : Asking → Said
-saidOfAsking (Asking.Coefficient z) = taking (z ∷ [])
-saidOfAsking (Asking.Refused r) = refusing r
+saidOfAsking (Asking.Coefficient z) = taken (z ∷ [])
+saidOfAsking (Asking.Refused r) = refused r
