@@ -16,6 +16,7 @@ use Rattle.words.specs.Said.{lowOf}
 use Rattle.words.specs.declared.Range.{Range}
 use Rattle.words.specs.declared.Range.the-variants.{Empty, Held}
 use Rattle.om3.specs.Series.{isReading, isGap, Series, levels, P, hour, hourOf}
+use Rattle.om3.specs.Ranges.{Readings}
 use Rattle.om3.specs.Nodes.{Node}
 use Rattle.om3.specs.Table.{Table, coefficient, codeOfPlace, tableOf, HasTable}
 use Rattle.om3.specs.Down.{reachedAt, turnedBack}
@@ -25,7 +26,7 @@ use Rattle.om3.proofs.Tests.{left-true, neither, is-between}
 use Rattle.om3.proofs.Lists.{map-up-length, map-up-from-0}
 use Rattle.om3.proofs.Levels.{levels-some, n≤P}
 use Rattle.om3.proofs.Nodes.{InTree, start-hour}
-use Rattle.om3.proofs.Ranges.{Readings, low-hour}
+use Rattle.om3.proofs.Ranges.{low-hour}
 use Rattle.om3.proofs.Places.{hour-range}
 use Rattle.om3.proofs.Reached.{reached-range}
 use Rattle.om3.proofs.MadeSound.{made-sound}

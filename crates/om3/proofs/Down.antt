@@ -16,11 +16,10 @@ use Rattle.words.specs.Said.{lowOf, highOf}
 use Rattle.words.specs.declared.Range.{Range}
 use Rattle.words.specs.declared.Range.the-variants.{Empty, Held}
 use Rattle.om3.specs.Series.{isGap}
-use Rattle.om3.specs.Ranges.{hourRange, both}
+use Rattle.om3.specs.Ranges.{hourRange, both, Readings}
 use Rattle.om3.specs.Table.{lowDetail, highDetail, code}
 use Rattle.om3.specs.Down.{leftLow, rightLow, leftHigh, rightHigh, leftHalf, rightHalf}
 use Rattle.om3.specs.Down.{firstOfPair, secondOfPair, rootRange}
-use Rattle.om3.proofs.Ranges.{Readings}
 
 -- The left low is the low plus what the detail is over zero; the other three likewise.
 pub leftLow-parts : (a d : ℤ) → up (leftLow a d) + dn a ≡ up a + (up d - dn d) + dn (leftLow a d)

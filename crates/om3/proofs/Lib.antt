@@ -4,6 +4,7 @@ pub mod Tests
 pub mod Lists
 pub mod Levels
 pub mod Nodes
+pub mod Located
 pub mod Ranges
 pub mod Down
 pub mod Places

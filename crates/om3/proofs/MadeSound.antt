@@ -19,14 +19,14 @@ use Rattle.words.specs.declared.Range.{Range}
 use Rattle.words.specs.declared.Range.the-variants.{Empty, Held}
 use Rattle.om3.specs.Series.{isReading, isGap, Series, hour, hourOf}
 use Rattle.om3.specs.Nodes.{Node, root, left, right, start, firstHour}
-use Rattle.om3.specs.Ranges.{hourRange, both, rangeOf, isEmpty}
+use Rattle.om3.specs.Ranges.{hourRange, both, rangeOf, isEmpty, Readings}
 use Rattle.om3.specs.Table.{Table, lowDetail, highDetail, code, pairCode, tableOf}
 use Rattle.om3.specs.Down.{leftHalf, coefficientAt}
 use Rattle.om3.specs.Sound.{isDetail, ordered, bothAre, soundDetails, soundCode, gapFrom, soundNode}
 use Rattle.om3.specs.Sound.{soundRootValues, soundTable}
 use Rattle.om3.proofs.Tests.{both-true, left-true, right-true, is-between}
 use Rattle.om3.proofs.Nodes.{InTree, pair-yes, pair-no}
-use Rattle.om3.proofs.Ranges.{Readings, range-halves, readings-range}
+use Rattle.om3.proofs.Ranges.{range-halves, readings-range}
 use Rattle.om3.proofs.Down.{left-back, right-back, first-back, second-back}
 use Rattle.om3.proofs.Places.{root-low, root-high, low-place, high-place, code-place, hour-range}
 use Rattle.om3.proofs.Reached.{reached-range}

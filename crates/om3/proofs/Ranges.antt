@@ -7,7 +7,6 @@ use mathlib.Core.Logic.{⊎-elim}
 use Prim.Native.Nat.{ℕ, _<_}
 use lib.Dec.{ltb}
 use lib.IntN.{ℤ, pos, negℤ}
-use lib.Signed.{_≤ℤ_}
 use lib.ListN.{getD}
 use borrow.Author.Tests.{ltb-true}
 use Rattle.signed.specs.Choice.{minZ, maxZ}
@@ -21,7 +20,7 @@ use Rattle.words.specs.declared.Range.{Range}
 use Rattle.words.specs.declared.Range.the-variants.{Empty, Held}
 use Rattle.om3.specs.Series.{isReading, isGap, Series, hourOf}
 use Rattle.om3.specs.Nodes.{Node, left, right, hours}
-use Rattle.om3.specs.Ranges.{hourRange, both, look, rangeOf}
+use Rattle.om3.specs.Ranges.{hourRange, both, Readings, look, rangeOf}
 use Rattle.om3.proofs.Tests.{or-cases, between}
 use Rattle.om3.proofs.Nodes.{hours-halves}
 
@@ -62,11 +61,6 @@ unfolding rangeOf
 range-halves l n s v b =
     rw (hours-halves l v b, map-append (hourOf n s) (hours l (left v)) (hours l (right v)))
     (look-append (map (hourOf n s) (hours l (left v))) (map (hourOf n s) (hours l (right v))))
-
--- A range of readings: low ≤ high, and both are readings. An empty one has nothing to hold to.
-abbrev pub Readings : Range → Type 0
-Readings Empty = Unit
-Readings (Held a b) = (negℤ (pos largestReading) ≤ℤ a) × (a ≤ℤ b) × (b ≤ℤ pos largestReading)
 
 pub readings-both : (r s : Range) → Readings r → Readings s → Readings (both r s)
 readings-both Empty s p q = q

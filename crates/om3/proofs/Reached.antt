@@ -10,12 +10,12 @@ use borrow.Author.Tests.{eq-eqb, ne-eqb}
 use Rattle.words.specs.declared.Range.{Range}
 use Rattle.om3.specs.Series.{Series, hour, hourOf}
 use Rattle.om3.specs.Nodes.{Node, root, left, right, start}
-use Rattle.om3.specs.Ranges.{rangeOf}
+use Rattle.om3.specs.Ranges.{rangeOf, Readings}
 use Rattle.om3.specs.Table.{Table, pairCode, tableOf}
 use Rattle.om3.specs.Down.{coefficientAt, rootRange, leftOf, rightOf, reachedAt, reached}
 use Rattle.om3.proofs.Tests.{even-or-odd}
 use Rattle.om3.proofs.Nodes.{InTree, pair-yes, pair-no}
-use Rattle.om3.proofs.Ranges.{Readings, range-halves, readings-range}
+use Rattle.om3.proofs.Ranges.{range-halves, readings-range}
 use Rattle.om3.proofs.Down.{left-back, right-back, root-back, first-back, second-back}
 use Rattle.om3.proofs.Places.{root-low, root-high, low-place, high-place, code-place, hour-range}
 

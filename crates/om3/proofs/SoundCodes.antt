@@ -15,12 +15,11 @@ use Rattle.words.specs.Said.{lowOf}
 use Rattle.words.specs.declared.Range.{Range}
 use Rattle.words.specs.declared.Range.the-variants.{Empty, Held}
 use Rattle.om3.specs.Series.{isGap}
-use Rattle.om3.specs.Ranges.{hourRange}
+use Rattle.om3.specs.Ranges.{hourRange, Readings}
 use Rattle.om3.specs.Table.{code}
 use Rattle.om3.specs.Down.{firstOfPair, secondOfPair}
 use Rattle.om3.specs.Sound.{soundCode}
 use Rattle.om3.proofs.Tests.{and-left, and-right, or-cases}
-use Rattle.om3.proofs.Ranges.{Readings}
 use Rattle.om3.proofs.SoundDetails.{Halves, low-no-gap, high-no-gap}
 
 -- A pair: its hours, each a single reading or a gap, and its code given back by them.

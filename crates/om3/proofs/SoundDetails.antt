@@ -15,13 +15,12 @@ use Rattle.words.specs.Said.{lowOf, highOf}
 use Rattle.words.specs.declared.Range.{Range}
 use Rattle.words.specs.declared.Range.the-variants.{Empty, Held}
 use Rattle.om3.specs.Series.{isReading, isGap}
-use Rattle.om3.specs.Ranges.{both}
+use Rattle.om3.specs.Ranges.{both, Readings}
 use Rattle.om3.specs.Table.{lowDetail, highDetail}
 use Rattle.om3.specs.Down.{leftLow, rightLow, leftHigh, rightHigh, leftHalf, rightHalf}
 use Rattle.om3.specs.Down.{rootRange}
 use Rattle.om3.specs.Sound.{soundRootValues, isDetail, ordered, bothAre, soundDetails}
 use Rattle.om3.proofs.Tests.{and-left, and-right, or-cases, between}
-use Rattle.om3.proofs.Ranges.{Readings}
 use Rattle.om3.proofs.Down.{leftLow-parts, rightLow-parts, leftHigh-parts, rightHigh-parts, no-mark}
 
 -- Two ranges are those of a node's halves: they join to its range, and are ranges of readings.

@@ -12,7 +12,7 @@ use Rattle.words.specs.declared.Range.{Range}
 use Rattle.om3.specs.Lists.{every}
 use Rattle.om3.specs.Series.{hour}
 use Rattle.om3.specs.Nodes.{Node, number, left, right, start, firstHour}
-use Rattle.om3.specs.Ranges.{hourRange}
+use Rattle.om3.specs.Ranges.{hourRange, Readings}
 use Rattle.om3.specs.Table.{Table}
 use Rattle.om3.specs.Down.{leftHalf, rightHalf, firstOfPair, secondOfPair, coefficientAt, lowDetailAt}
 use Rattle.om3.specs.Down.{highDetailAt, codeAt, reachedAt, reached}
@@ -20,7 +20,6 @@ use Rattle.om3.specs.Sound.{soundRootValues, soundCode, gapFrom, soundPa
 use Rattle.om3.specs.Sound.{soundTable}
 use Rattle.om3.proofs.Tests.{and-left, and-right, even-or-odd}
 use Rattle.om3.proofs.Nodes.{InTree, pair-yes, pair-no, start-hour}
-use Rattle.om3.proofs.Ranges.{Readings}
 use Rattle.om3.proofs.Reached.{reached-left, reached-right}
 use Rattle.om3.proofs.NodeLists.{each-in-table}
 use Rattle.om3.proofs.SoundDetails.{Halves, root-values, Details, details}

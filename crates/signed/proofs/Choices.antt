@@ -1,12 +1,14 @@
 -- The lesser and the greater of two numbers, and the tests of equality, in their parts. Assumes nothing.
-use mathlib.Core.Path.{_≡_, refl, ap}
+use mathlib.Core.Path.{_≡_, refl, sym, ap, _∙_}
 use mathlib.Core.Bool.{Bool, true, false, cond, _&&_}
 use Prim.Native.Nat.{ℕ, _+_, _<_, _^_, min, max}
 use native.Mathlib.Omega.{arith}
 use lib.IntN.{ℤ, pos, negsuc}
 use lib.Signed.{leZ}
 use mir.Syntax.{w32}
-use mir.Val.{SFits, ofZ}
+use mir.Val.{SFits, toZ, ofZ}
+use mir.Facts.{toZ-ofZ}
+use lib.Dec.{eqb}
 use borrow.Author.Tests.{eqb-true, eq-eqb, ne-eqb}
 use Rattle.signed.specs.Choice.{minZ, maxZ, eqZ, isNumber}
 use Rattle.signed.proofs.Parts.{up, dn, ≡-parts, parts-≡, leZ-true, leZ-false, true-leZ, clash}
@@ -53,6 +55,11 @@ pub isNumber-no : (k : ℕ) (z : ℤ) → (ofZ w32 z ≡ k → ⊥) → isNumber
 isNumber-no k (pos n) h = ne-eqb n k h
 isNumber-no k (negsuc n) h = refl
 
+-- The same as one equation of tests.
+pub isNumber-bits : (k : ℕ) (z : ℤ) → k < 2 ^ 31 → SFits w32 z → eqb (ofZ w32 z) k ≡ isNumber k z
+isNumber-bits k (pos n) h f = refl
+isNumber-bits k (negsuc n) h f = ne-eqb (ofZ w32 (negsuc n)) k (λ e. omega (arith, f .sfits))
+
 -- Two numbers that pass the test of equality are equal, and equal numbers pass it.
 pub eqZ-true : (a b : ℤ) → eqZ a b ≡ true → a ≡ b
 eqZ-true a b e = by (leZ a b) refl (leZ b a) refl e
@@ -64,3 +71,14 @@ eqZ-true a b e = by (leZ a b) refl (leZ b a) refl e
 
 pub true-eqZ : (a b : ℤ) → up a + dn b ≡ up b + dn a → eqZ a b ≡ true
 true-eqZ a b h = rw (true-leZ a b (omega arith), true-leZ b a (omega arith))
+
+-- The machine's test of equality compares bits: it passes exactly if the numbers are equal.
+pub bits-eqZ : (a b : ℤ) → SFits w32 a → SFits w32 b → ofZ w32 a ≡ ofZ w32 b → eqZ a b ≡ true
+bits-eqZ a b f g e = true-eqZ a b (≡-parts (sym (toZ-ofZ f) ∙ ap (toZ w32) e ∙ toZ-ofZ g))
+
+pub bits-not-eqZ : (a b : ℤ) → (ofZ w32 a ≡ ofZ w32 b → ⊥) → eqZ a b ≡ false
+bits-not-eqZ a b n = by (eqZ a b) refl
+  where
+    by : (t : Bool) → eqZ a b ≡ t → t ≡ false
+    by true e = absurd (n (ap (ofZ w32) (eqZ-true a b e)))
+    by false e = refl

@@ -1,5 +1,6 @@
 -- What fits a signed machine integer, and what the machine reads back from its bits. Assumes nothing.
-use mathlib.Core.Path.{_≡_}
+use mathlib.Core.Path.{_≡_, sym, ap, _∙_}
+use mathlib.Core.Bool.{Bool}
 use Prim.Native.Nat.{suc, _+_, _-_, _≤_, _<_, _^_}
 use native.Mathlib.Omega.{arith}
 use lib.Dec.{T}
@@ -41,6 +42,10 @@ back-sub a b h = omega (arith, ≡-parts (toZ-ofZ h), sub-parts a b)
 -- The same from the bare bound, as a field, an element or a call's result has it.
 pub reads-back : (z : ℤ) → mag z < 2 ^ 31 → toZ w32 (ofZ w32 z) ≡ z
 reads-back z h = toZ-ofZ (record { sfits = h })
+
+-- A number that is handed to a function is read back from its bits: what the function tested of it holds of it.
+pub told : (test : ℤ → Bool) (z : ℤ) → SFits w32 z → {r b : Bool} → r ≡ test (toZ w32 (ofZ w32 z)) → r ≡ b → test z ≡ b
+told test z f e h = sym (ap test (toZ-ofZ f)) ∙ sym e ∙ h
 
 -- A cast to an unsigned type: the number is not negative, and its magnitude fits.
 pub parts-nonNeg : (z : ℤ) → dn z ≤ up z → T (nonNeg z)

@@ -1,0 +1,166 @@
+//! The calls that are compared, and comparing one kind.
+//!
+//! A new call is a file here with its [`Call`], and its line in `main.rs`.
+
+mod level;
+mod make;
+mod turn_back;
+
+use std::collections::BTreeMap;
+use std::fmt;
+use std::panic::{catch_unwind, AssertUnwindSafe};
+
+use second::answer::answer;
+use second::random::Random;
+
+use crate::given::{Given, Head};
+
+pub use level::Level;
+pub use make::Make;
+pub use turn_back::TurnBack;
+
+/// One kind of call: its numbers and what its buffers hold before.
+pub trait Call: Sized {
+    /// Its name in the second program's lines.
+    const NAME: &'static str;
+
+    /// Every outcome that it can have, each of which has to occur.
+    const OUTCOMES: &'static [&'static str];
+
+    /// The calls that every run makes, whatever its seed.
+    fn edges() -> Vec<Self>;
+
+    /// A drawn call.
+    fn draw(random: &mut Random) -> Self;
+
+    /// The call as a line for the second program.
+    fn line(&self) -> String;
+
+    /// What the proved store gives.
+    fn given(&self) -> Given;
+
+    /// Which of the outcomes this is.
+    fn outcome(&self, head: &Head) -> String {
+        taken_or_refused(head)
+    }
+}
+
+/// `taken`, or `refused` with the number.
+fn taken_or_refused(head: &Head) -> String {
+    match head {
+        Head::Refused(refusal) => format!("refused {}", refusal.number),
+        _ => String::from("taken"),
+    }
+}
+
+/// How often each outcome of one kind of call occurred.
+pub struct Tally {
+    name: &'static str,
+    listed: &'static [&'static str],
+    seen: BTreeMap<String, usize>,
+}
+
+impl Tally {
+    /// A line for each outcome that never occurred, and for each that did and is not listed.
+    pub fn lacking(&self) -> Vec<String> {
+        let never = self.listed.iter().filter(|&&outcome| !self.seen.contains_key(outcome));
+        let unlisted = self.seen.keys().filter(|seen| !self.listed.contains(&seen.as_str()));
+        let name = self.name;
+        never
+            .map(|outcome| format!("{name}: `{outcome}` never occurred"))
+            .chain(unlisted.map(|seen| format!("{name}: `{seen}` occurred, which this call cannot have")))
+            .collect()
+    }
+}
+
+impl fmt::Display for Tally {
+    fn fmt(&self, f: &mut fmt::Formatter<'_>) -> fmt::Result {
+        let times = |outcome: &str| self.seen.get(outcome).copied().unwrap_or(0);
+        let outcomes: Vec<String> =
+            self.listed.iter().map(|outcome| format!("{} {outcome}", times(outcome))).collect();
+        write!(f, "{} {} calls: {}", self.name, self.seen.values().sum::<usize>(), outcomes.join(", "))
+    }
+}
+
+/// A call on which the two sides differ, or that changed what it may not.
+pub struct Difference {
+    call: String,
+    proved: String,
+    second: String,
+    faults: Vec<String>,
+}
+
+impl fmt::Display for Difference {
+    fn fmt(&self, f: &mut fmt::Formatter<'_>) -> fmt::Result {
+        writeln!(f, "difference; the call is a line for `second answer`:")?;
+        writeln!(f, "{}", self.call)?;
+        writeln!(f, "the proved store gives:")?;
+        writeln!(f, "{}", self.proved)?;
+        writeln!(f, "the second program gives:")?;
+        write!(f, "{}", self.second)?;
+        self.faults.iter().try_for_each(|fault| write!(f, "\n{fault}"))
+    }
+}
+
+/// Compares the edge calls of one kind and then this many drawn ones. Each kind draws from the seed anew, so that a
+/// kind's calls do not depend on the kinds before it.
+pub fn compare<C: Call>(seed: u64, calls: usize) -> Result<Tally, Box<Difference>> {
+    let mut random = Random::new(seed);
+    let mut tally = Tally { name: C::NAME, listed: C::OUTCOMES, seen: BTreeMap::new() };
+    let drawn = (0..calls).map(|_| C::draw(&mut random));
+    for call in C::edges().into_iter().chain(drawn) {
+        let outcome = compare_one(&call)?;
+        *tally.seen.entry(outcome).or_default() += 1;
+    }
+    Ok(tally)
+}
+
+/// Compares one call and tells its outcome.
+fn compare_one<C: Call>(call: &C) -> Result<String, Box<Difference>> {
+    let line = call.line();
+    let second = answer(line.as_bytes());
+    let given =
+        catch_unwind(AssertUnwindSafe(|| call.given())).unwrap_or_else(|_| Given::new(Head::Panicked));
+    if given.answer == second && given.faults.is_empty() {
+        Ok(call.outcome(&given.head))
+    } else {
+        Err(Box::new(Difference { call: line, proved: given.answer, second, faults: given.faults }))
+    }
+}
+
+#[cfg(test)]
+mod tests {
+    use super::*;
+
+    /// Every call is one that the second program takes or refuses, and the same seed draws the same calls.
+    fn lines_are_calls<C: Call>() {
+        let drawn = |random: &mut Random| C::draw(random).line();
+        let (mut random, mut again) = (Random::new(5), Random::new(5));
+        for _ in 0..300 {
+            let line = drawn(&mut random);
+            assert_eq!(line, drawn(&mut again));
+            assert!(line.starts_with(C::NAME));
+            assert_ne!(answer(line.as_bytes()), second::answer::BAD_LINE, "{line}");
+        }
+        for call in C::edges() {
+            assert_ne!(answer(call.line().as_bytes()), second::answer::BAD_LINE);
+        }
+    }
+
+    #[test]
+    fn lines_of_all_kinds_are_calls() {
+        lines_are_calls::<Make>();
+        lines_are_calls::<TurnBack>();
+        lines_are_calls::<Level>();
+    }
+
+    #[test]
+    fn outcomes_that_lack_are_told() {
+        let seen = [("taken", 2), ("refused 4", 1)].map(|(outcome, times)| (String::from(outcome), times));
+        let tally = Tally { name: "make", listed: &["taken", "refused 1"], seen: BTreeMap::from(seen) };
+        assert_eq!(tally.to_string(), "make 3 calls: 2 taken, 0 refused 1");
+        let lacking =
+            ["make: `refused 1` never occurred", "make: `refused 4` occurred, which this call cannot have"];
+        assert_eq!(tally.lacking(), lacking);
+    }
+}

@@ -1,0 +1,52 @@
+//! A call as a line for `second answer`, so that it can be run again.
+
+use std::fmt::{Display, Write};
+
+/// A line being written: the name of the call, its numbers, then its buffers.
+pub struct Line(String);
+
+impl Line {
+    /// The name of the call.
+    pub fn call(name: &str) -> Line {
+        Line(String::from(name))
+    }
+
+    /// A number of the head.
+    pub fn number(mut self, number: usize) -> Line {
+        self.push(number);
+        self
+    }
+
+    /// A buffer, with a repeated number as `7*5`.
+    pub fn buffer<T: Display + PartialEq>(mut self, buffer: &[T]) -> Line {
+        self.push('|');
+        for run in buffer.chunk_by(T::eq) {
+            match run {
+                [number] => self.push(number),
+                _ => self.push(format_args!("{}*{}", run[0], run.len())),
+            }
+        }
+        self
+    }
+
+    /// The line itself.
+    pub fn end(self) -> String {
+        self.0
+    }
+
+    fn push(&mut self, shown: impl Display) {
+        write!(self.0, " {shown}").expect("a string takes every text");
+    }
+}
+
+#[cfg(test)]
+mod tests {
+    use super::*;
+
+    #[test]
+    fn a_line_is_a_call() {
+        let line = Line::call("make").number(2).buffer(&[7, 7]).buffer(&[0, 0, 5]).buffer::<u8>(&[]).end();
+        assert_eq!(line, "make 2 | 7*2 | 0*2 5 |");
+        assert_eq!(second::answer::answer(line.as_bytes()), "refused 3 at 0 | 0 0 5 |");
+    }
+}

@@ -1,0 +1,78 @@
+-- From how the code carries a node, by its number, its first hour and how many hours it covers, to its place in the
+-- tree. Assumes nothing.
+use mathlib.Core.Path.{_≡_, refl, _∙_}
+use mathlib.Core.Logic.{⊎-elim}
+use Prim.Native.Nat.{ℕ, suc, _+_, _-_, _*_, _/_, _^_, _≤_, _<_}
+use native.Mathlib.Omega.{arith}
+use lib.Pow.{pow-mono}
+use Rattle.om3.specs.Nodes.{Node, root, left, right, width, Located}
+use Rattle.om3.proofs.Tests.{below-or-not}
+use Rattle.om3.proofs.Nodes.{InTree, start-root, width-root, width-half, width-right, start-left, start-right}
+use Rattle.om3.proofs.Nodes.{number-left, number-right, left-in, right-in}
+
+pub root-located : (l : ℕ) → Located l root 1 0 (2 ^ l)
+root-located l =
+    record { deep = omega arith; low = omega arith; numbered = refl; begins = start-root l; covers = width-root l }
+
+module _ {l : ℕ} {v : Node} {i f w : ℕ} (at : Located l v i f w) where
+  pub located-in : InTree l v
+  located-in = record { deep = at .deep; low = at .low }
+
+  -- How many hours a node covers tells its level: two or three are a pair's, four or more no pair's.
+  pub above-hours : 2 ≤ w → v .level < l
+  unfolding width
+  above-hours h =
+      ⊎-elim (λ p. p)
+      (λ p.
+      let d = at .deep in
+      let z : l - v .level ≡ 0 = omega arith in
+      let y : 2 ^ (l - v .level) ≡ 1 = rw z in
+      absurd (omega (arith, at .covers)))
+      (below-or-not (v .level) l)
+
+  pub above-pairs : 4 ≤ w → suc (v .level) < l
+  unfolding width
+  above-pairs h =
+      ⊎-elim (λ p. p)
+      (λ p.
+      let z : l - v .level ≤ 1 = omega arith in
+      absurd (omega (arith, at .covers, pow-mono z)))
+      (below-or-not (suc (v .level)) l)
+
+  pub at-pair : 2 ≤ w → w < 4 → suc (v .level) ≡ l
+  unfolding width
+  at-pair two four =
+      let d = above-hours two in
+      ⊎-elim
+      (λ p.
+      let z : 2 ≤ l - v .level = omega arith in
+      absurd (omega (arith, at .covers, pow-mono z)))
+      (λ p. omega arith)
+      (below-or-not (suc (v .level)) l)
+
+  module _ (h : 2 ≤ w) where
+    abbrev b : v .level < l
+    b = above-hours h
+
+    half : width l (left v) ≡ w / 2
+    half = omega (arith, at .covers, width-half l v b)
+
+    pub left-located : Located l (left v) (2 * i) f (w / 2)
+    left-located =
+        record {
+          deep = b;
+          low = left-in located-in b .low;
+          numbered = omega (arith, number-left v, at .numbered);
+          begins = start-left l v b ∙ at .begins;
+          covers = half;
+        }
+
+    pub right-located : Located l (right v) (2 * i + 1) (f + w / 2) (w / 2)
+    right-located =
+        record {
+          deep = b;
+          low = right-in located-in b .low;
+          numbered = omega (arith, number-right v, at .numbered);
+          begins = omega (arith, start-right l v b, at .begins, half);
+          covers = width-right l v b ∙ half;
+        }

@@ -1,0 +1,17 @@
+// How large a table is.
+ghost use mathlib.Core.Path.{_≡_};
+ghost use Prim.Native.Nat.{_≤_};
+ghost use Rattle.words.specs.Constants.{largestHours};
+ghost use Rattle.om3.specs.Series.{P};
+
+// P for n hours, which are not too many: the smallest power of two that is at least n and at least 2.
+pub fn places(n: usize) -> usize
+    requires { ⌜ n ≤ largestHours ⌝ }
+    ensures { λ r. ⌜ r ≡ P n ⌝ }
+{
+    let mut p = 2;
+    while p < n {
+        p = p * 2;
+    }
+    p
+}

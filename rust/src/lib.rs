@@ -1,0 +1,27 @@
+//! The proved store of hive weights, called from Rust.
+//!
+//! A series of n hours, 1 to 16,384, holds a reading in grams or a gap in each hour. Its table has P coefficients and
+//! P/2 codes, where P is the smallest power of two that is at least n and at least 2. The functions here check
+//! nothing themselves: every one is a call of the proved store, which takes any numbers and buffers of any length,
+//! empty ones too. A refused call writes nothing, and no call writes beyond what it needs of a longer buffer.
+//!
+//! ```
+//! use sagivelume::GAP;
+//!
+//! let readings = [41_200, 41_350, GAP, 40_900, 32_760, 32_790, GAP];
+//! let (mut coefficients, mut codes) = ([0; 8], [0; 4]);
+//! sagivelume::make(7, &readings, &mut coefficients, &mut codes)?;
+//!
+//! let mut hours = [0; 7];
+//! sagivelume::turn_back(7, &coefficients, &codes, &mut hours)?;
+//! assert_eq!(hours, readings);
+//! # Ok::<(), sagivelume::Refusal>(())
+//! ```
+
+#[allow(unsafe_code)]
+mod linked;
+mod refusal;
+mod table;
+
+pub use refusal::Refusal;
+pub use table::{level, make, turn_back, GAP};
