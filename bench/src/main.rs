@@ -164,11 +164,9 @@ fn main() {
     }
 
     let gaps = readings.iter().filter(|&&held| held == GAP).count();
-    println!(
-        "Nanoseconds a reading, {N} hours of which {gaps} are gaps; {} rounds, the two",
-        rounds - WARMING_UP
-    );
-    println!("sides interleaved; buffers not cleared. Both gave what the second program gives.");
+    println!("Nanoseconds a reading, {N} hours of which {gaps} are gaps; {} rounds,", rounds - WARMING_UP);
+    println!("the two sides interleaved; buffers not cleared; ratio is proved / plain.");
+    println!("Before timing, both gave what the second program gives.");
     println!();
     println!("| call | proved, least | plain, least | ratio | proved, median | plain, median | ratio |");
     println!("|---|---|---|---|---|---|---|");

@@ -76,7 +76,8 @@ module _ (n : ℕ) where
   module _ (s : List ℤ) (t : Table) (series : Series n s) (h : HasTable n s t) where
     pub has-sound : soundTable l n t ≡ true
     has-sound =
-        sound-agrees l t (tableOf l n s) (has-agrees s t h) (levels-some n) n (made-sound l n s series (levels-some n))
+        let o = levels-some n in
+        sound-agrees l t (tableOf l n s) (has-agrees s t h) o n (made-sound l n s (series .holds) o)
 
     at-hour : (k : ℕ) → k < n → getD s k gap ≡ lowOf (reachedAt l t l k)
     unfolding hourOf
@@ -86,7 +87,7 @@ module _ (n : ℕ) where
         let v : Node = record { level = l; index = k } in
         rw (
           reached-agrees l t (tableOf l n s) (has-agrees s t h) o l k (le-refl l) b′,
-          reached-range l n s series o l k (le-refl l) b′,
+          reached-range l n s (series .holds) o l k (le-refl l) b′,
           hour-range l n s v refl,
           start-hour l v refl,
           low-hour (hourOf n s (hour k)),

@@ -2,7 +2,7 @@
 -- nothing.
 use mathlib.Core.Path.{_≡_, ap, _∙_}
 use mathlib.Core.Logic.{⊎-elim}
-use Prim.Native.Nat.{ℕ, zero, suc, _-_, _/_, _^_, _≤_}
+use Prim.Native.Nat.{ℕ, zero, suc, _+_, _-_, _*_, _/_, _^_, _≤_}
 use native.Mathlib.Nat.{two-pow-succ}
 use native.Mathlib.Omega.{arith}
 use lib.Dec.{leb}
@@ -46,3 +46,11 @@ pub half-pow : (l : ℕ) → 1 ≤ l → 2 ^ l / 2 ≡ 2 ^ (l - 1)
 half-pow l o =
     let e : l ≡ suc (l - 1) = omega arith in
     ap (λ (k : ℕ). 2 ^ k / 2) e ∙ ap (λ (x : ℕ). x / 2) (two-pow-succ (l - 1)) ∙ omega arith
+
+-- P is even.
+pub P-even : (n : ℕ) → P n ≡ 2 * (P n / 2)
+P-even n =
+    let o = levels-some n in
+    let e : levels n ≡ suc (levels n - 1) = omega arith in
+    let d : P n ≡ 2 ^ (levels n - 1) + 2 ^ (levels n - 1) = ap (λ (j : ℕ). 2 ^ j) e ∙ two-pow-succ (levels n - 1) in
+    omega arith

@@ -5,11 +5,14 @@ pub mod Lists
 pub mod Levels
 pub mod Nodes
 pub mod Located
+pub mod Rooms
 pub mod Ranges
 pub mod Down
 pub mod Places
 pub mod Reached
 pub mod NodeLists
+pub mod Listed
+pub mod Writes
 pub mod Examined
 pub mod MadeSound
 pub mod SoundDetails

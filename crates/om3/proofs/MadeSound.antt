@@ -17,7 +17,7 @@ use Rattle.words.specs.Constants.{largestReading, largestDetail, leftMark, righ
 use Rattle.words.specs.Said.{lowOf, highOf}
 use Rattle.words.specs.declared.Range.{Range}
 use Rattle.words.specs.declared.Range.the-variants.{Empty, Held}
-use Rattle.om3.specs.Series.{isReading, isGap, Series, hour, hourOf}
+use Rattle.om3.specs.Series.{isReading, isGap, Holds, hour, hourOf}
 use Rattle.om3.specs.Nodes.{Node, root, left, right, start, firstHour}
 use Rattle.om3.specs.Ranges.{hourRange, both, rangeOf, isEmpty, Readings}
 use Rattle.om3.specs.Table.{Table, lowDetail, highDetail, code, pairCode, tableOf}
@@ -92,7 +92,7 @@ late-gap n s t = by (ltb t n)
     by true = refl
     by false = refl
 
-module _ (l n : ℕ) (s : List ℤ) (series : Series n s) (o : 1 ≤ l) where
+module _ (l n : ℕ) (s : List ℤ) (holds : Holds n s) (o : 1 ≤ l) where
   abbrev T : Table
   T = tableOf l n s
 
@@ -102,13 +102,13 @@ module _ (l n : ℕ) (s : List ℤ) (series : Series n s) (o : 1 ≤ l) where
     detail-node h =
         rw (
           pair-no l v h,
-          reached-range l n s series o (v .level) (v .index) (i .deep) (i .low),
+          reached-range l n s holds o (v .level) (v .index) (i .deep) (i .low),
           range-halves l n s v b,
           low-place l n s v i h,
           high-place l n s v i h,
         )
         (details-sound (rangeOf l n s (left v)) (rangeOf l n s (right v))
-        (readings-range n s series l (left v)) (readings-range n s series l (right v)))
+        (readings-range n s holds l (left v)) (readings-range n s holds l (right v)))
 
     pair-node : suc (v .level) ≡ l → soundNode l n T v ≡ true
     unfolding soundNode pairCode
@@ -117,7 +117,7 @@ module _ (l n : ℕ) (s : List ℤ) (series : Series n s) (o : 1 ≤ l) where
         let y = hourOf n s (hour (start l (right v))) in
         rw (
           pair-yes l v h,
-          reached-range l n s series o (v .level) (v .index) (i .deep) (i .low),
+          reached-range l n s holds o (v .level) (v .index) (i .deep) (i .low),
           range-halves l n s v b,
           code-place l n s v i h,
           hour-range l n s (left v) h,
@@ -137,5 +137,5 @@ module _ (l n : ℕ) (s : List ℤ) (series : Series n s) (o : 1 ≤ l) where
   unfolding soundTable
   made-sound =
       both-true {a = soundRootValues (coefficientAt T 0) (coefficientAt T 1)}
-      (rw (root-low l n s o, root-high l n s o) (root-sound (rangeOf l n s root) (readings-range n s series l root)))
+      (rw (root-low l n s o, root-high l n s o) (root-sound (rangeOf l n s root) (readings-range n s holds l root)))
       (table-from-each l (soundNode l n T) node-sound)

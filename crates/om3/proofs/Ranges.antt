@@ -18,7 +18,7 @@ use Rattle.words.specs.Said.{lowOf}
 use Rattle.words.specs.declared.Timestamp.{Timestamp}
 use Rattle.words.specs.declared.Range.{Range}
 use Rattle.words.specs.declared.Range.the-variants.{Empty, Held}
-use Rattle.om3.specs.Series.{isReading, isGap, Series, hourOf}
+use Rattle.om3.specs.Series.{isReading, isGap, Holds, hourOf}
 use Rattle.om3.specs.Nodes.{Node, left, right, hours}
 use Rattle.om3.specs.Ranges.{hourRange, both, Readings, look, rangeOf}
 use Rattle.om3.proofs.Tests.{or-cases, between}
@@ -77,13 +77,13 @@ readings-hour z h = by (isGap z) h
         let f : isReading z ≡ true = ⊎-elim (λ p. p) (λ c. clash c) (or-cases (isReading z) false e) in
         omega (signed, between (negℤ (pos largestReading)) (pos largestReading) z f)
 
-module _ (n : ℕ) (s : List ℤ) (series : Series n s) where
-  readings-at : (t : Timestamp) → Readings (hourRange (hourOf n s t))
+module _ (n : ℕ) (s : List ℤ) (holds : Holds n s) where
+  pub readings-at : (t : Timestamp) → Readings (hourRange (hourOf n s t))
   unfolding hourOf
   readings-at t = by (ltb (t .0) n) refl
     where
       by : (b : Bool) → ltb (t .0) n ≡ b → Readings (hourRange (cond b (getD s (t .0) gap) gap))
-      by true e = readings-hour (getD s (t .0) gap) (series .holds (t .0) (ltb-true (t .0) n e))
+      by true e = readings-hour (getD s (t .0) gap) (holds (t .0) (ltb-true (t .0) n e))
       by false e = tt
 
   pub readings-look : (ts : List Timestamp) → Readings (look (map (hourOf n s) ts))

@@ -8,7 +8,7 @@ use native.Mathlib.Omega.{arith}
 use lib.IntN.{ℤ}
 use borrow.Author.Tests.{eq-eqb, ne-eqb}
 use Rattle.words.specs.declared.Range.{Range}
-use Rattle.om3.specs.Series.{Series, hour, hourOf}
+use Rattle.om3.specs.Series.{Holds, hour, hourOf}
 use Rattle.om3.specs.Nodes.{Node, root, left, right, start}
 use Rattle.om3.specs.Ranges.{rangeOf, Readings}
 use Rattle.om3.specs.Table.{Table, pairCode, tableOf}
@@ -35,7 +35,7 @@ module _ (l : ℕ) (t : Table) (v : Node) where
       let e : (2 * v .index + 1) % 2 ≡ 0 → ⊥ = λ z. omega arith in
       rw (h, ne-eqb _ _ e)
 
-module _ (l n : ℕ) (s : List ℤ) (series : Series n s) where
+module _ (l n : ℕ) (s : List ℤ) (holds : Holds n s) where
   abbrev T : Table
   T = tableOf l n s
 
@@ -43,7 +43,7 @@ module _ (l n : ℕ) (s : List ℤ) (series : Series n s) where
   R v = rangeOf l n s v
 
   readings : (v : Node) → Readings (R v)
-  readings v = readings-range n s series l v
+  readings v = readings-range n s holds l v
 
   module _ (v : Node) (i : InTree l v) where
     details-left : suc (v .level) < l → leftOf l T v (R v) ≡ R (left v)

@@ -8,6 +8,7 @@ pub mod Down
 pub mod Checks
 pub mod Sound
 pub mod Refusals
+pub mod Calls
 pub mod Level
 pub mod Record
 pub mod Columns

@@ -1,33 +1,31 @@
+-- `places` doubles from 2 on. The invariant: p is a power of two up to P. The measure is what p lacks of n. Assumes
+-- nothing.
+use Prim.Native.Nat.{_-_}
+use native.Mathlib.Omega.{arith}
 use Rattle.sizes.proofs.places.Statement.{statement}
 use Rattle.sizes.proofs.places.Tie as tie
-use Rattle.sizes.proofs.places.Reads as reads
-use Rattle.sizes.proofs.places.Lts as lts
+use Rattle.sizes.proofs.Powers.{Power, power-two, power-double, power-done}
 
 abbrev Inv-loop : tie.InvT-loop
-Inv-loop n p₀ p = ?
+Inv-loop n p₀ p = Power n p
 
 abbrev μ-loop : tie.MeasureT-loop
-μ-loop n p₀ p = ?
+μ-loop n p₀ p = n - p
 
--- src/lib.rt:13:5
 loop-holds : tie.Need-loop-holds Inv-loop μ-loop
-loop-holds c = ?
+loop-holds c = power-two (c .args .n)
 
--- src/lib.rt:14:13
 mul-p : tie.Need-mul-p Inv-loop μ-loop
-mul-p c = ?
+mul-p c = omega arith
 
--- src/lib.rt:13:5
 loop-less : tie.Need-loop-less Inv-loop μ-loop
-loop-less c = ?
+loop-less c = omega (arith, c .before .loop .inv .two)
 
--- src/lib.rt:13:5
 loop-again : tie.Need-loop-again Inv-loop μ-loop
-loop-again c = ?
+loop-again c = power-double _ _ (c .before .loop .inv) (c .before .before .pre) (omega arith)
 
--- src/lib.rt:8:1
 returns : tie.Need-returns Inv-loop μ-loop
-returns c = ?
+returns c = power-done _ _ (c .before .loop .inv) (omega arith)
 
 pub places-spec : {M : Type 1} → statement M
 places-spec = tie.close (tie.spec Inv-loop μ-loop loop-holds mul-p loop-less loop-again returns)

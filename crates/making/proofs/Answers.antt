@@ -1,0 +1,113 @@
+-- What `make` promises at each of its answers: the checks in their order, and the whole table. Assumes nothing.
+use mathlib.Core.Path.{_≡_, refl, _∙_}
+use mathlib.Core.Bool.{true, false, _||_}
+use mathlib.Core.List.{List}
+use Prim.Native.Nat.{ℕ, _/_, _≤_, _<_}
+use lib.IntN.{ℤ}
+use lib.ListN.{length, set}
+use borrow.Author.Tests.{eq-eqb, ne-eqb, lt-ltb, le-ltb}
+use Rattle.words.specs.Constants.{largestHours}
+use Rattle.words.specs.Said.{lowOf, highOf}
+use Rattle.words.specs.declared.Range.{Range}
+use Rattle.words.specs.declared.Refusal.{Refusal}
+use Rattle.words.specs.declared.Refusal.the-variants.{BadHours, ShortBuffer}
+use Rattle.words.specs.declared.Taking.{Taking}
+use Rattle.om3.specs.Series.{badHours, levels, P}
+use Rattle.om3.specs.Nodes.{root}
+use Rattle.om3.specs.Table.{Table, lent}
+use Rattle.om3.specs.Checks.{Check, passes, refuses, andThen, inOrder}
+use Rattle.om3.specs.Refusals.{short, tableShort, checkReadings, makingChecks}
+use Rattle.om3.specs.Calls.{takingBy}
+use Rattle.om3.proofs.Levels.{levels-some}
+use Rattle.om3.proofs.Located.{root-located}
+use Rattle.making.specs.Making.{Room, Filled, Tabled, Made}
+use Rattle.making.proofs.Details.{coefficients-made}
+use Rattle.making.proofs.Codes.{codes-made}
+
+-- A call that is taken has passed its check; one that is refused was refused by it.
+pub taken-passes : (c : Check) → Taking.Taken ≡ takingBy c → c ≡ passes
+taken-passes passes e = refl
+taken-passes (refuses r) e = cc
+
+pub refused-refuses : (c : Check) (why : Refusal) → Taking.Refused why ≡ takingBy c → c ≡ refuses why
+refused-refuses passes why e = cc
+refused-refuses (refuses r) why e = cc
+
+-- The recursion over node 1, with its low and high written, leaves the table.
+module _ (n : ℕ) (s : List ℤ) (p : ℕ) (cs cs₁ : List ℤ) (ks ks₁ : List ℕ) (r : Range) where
+  pub whole-table : Room n p (length cs) (length ks) → Filled n s 1 0 p cs cs₁ ks ks₁ r
+      → (x y : ℤ) → x ≡ lowOf r → y ≡ highOf r → Tabled n s cs ks (set (set cs₁ 0 x) 1 y) ks₁
+  whole-table room done x y ex ey =
+      let l = levels n in
+      let at = done .below l root (rw (room .whole) (root-located l)) in
+      record {
+        coefficients =
+            rw (ex, ey, at .range, at .coefficients) (coefficients-made l n s (levels-some n) cs (room .details));
+        codes = at .codes ∙ codes-made l n s (levels-some n) ks (room .pairs);
+      }
+
+module _ (n : ℕ) (s : List ℤ) (cs : List ℤ) (ks : List ℕ) where
+  abbrev T : Table
+  T = lent cs ks
+
+  -- A refusal leaves both buffers as they were.
+  refused : (why : Refusal) → makingChecks n s T ≡ refuses why → Made n s cs ks cs ks (Taking.Refused why)
+  refused why e = record { answer = rw e; coefficients = rw e; codes = rw e }
+
+  pub no-hours : n ≡ 0 → Made n s cs ks cs ks (Taking.Refused BadHours)
+  no-hours z = refused BadHours checks
+    where
+      checks : makingChecks n s T ≡ refuses BadHours
+      checks = unfold inOrder in rw (eq-eqb n 0 z)
+
+  module _ (some : n ≡ 0 → ⊥) where
+    pub too-many : largestHours < n → Made n s cs ks cs ks (Taking.Refused BadHours)
+    too-many h = refused BadHours checks
+      where
+        checks : makingChecks n s T ≡ refuses BadHours
+        checks = unfold inOrder in rw (ne-eqb n 0 some, lt-ltb largestHours n h)
+
+    module _ (most : n ≤ largestHours) where
+      good : badHours n ≡ false
+      good = rw (ne-eqb n 0 some, le-ltb largestHours n most)
+
+      -- Any of the three buffers too short.
+      no-room : (short (length s) n || tableShort n T) ≡ true → Made n s cs ks cs ks (Taking.Refused ShortBuffer)
+      no-room e = refused ShortBuffer checks
+        where
+          checks : makingChecks n s T ≡ refuses ShortBuffer
+          checks = unfold inOrder in rw (good, e)
+
+      pub few-readings : length s < n → Made n s cs ks cs ks (Taking.Refused ShortBuffer)
+      few-readings h = no-room (rw (lt-ltb (length s) n h))
+
+      module _ (read : n ≤ length s) where
+        pub few-coefficients : length cs < P n → Made n s cs ks cs ks (Taking.Refused ShortBuffer)
+        few-coefficients h = no-room (rw (le-ltb (length s) n read, lt-ltb (length cs) (P n) h))
+
+        module _ (details : P n ≤ length cs) where
+          pub few-codes : length ks < P n / 2 → Made n s cs ks cs ks (Taking.Refused ShortBuffer)
+          few-codes h =
+              no-room (rw (le-ltb (length s) n read, le-ltb (length cs) (P n) details, lt-ltb (length ks) (P n / 2) h))
+
+          module _ (pairs : P n / 2 ≤ length ks) where
+            room : (short (length s) n || tableShort n T) ≡ false
+            room = rw (le-ltb (length s) n read, le-ltb (length cs) (P n) details, le-ltb (length ks) (P n / 2) pairs)
+
+            then-passes : (c : Check) → andThen c passes ≡ c
+            then-passes passes = refl
+            then-passes (refuses why) = refl
+
+            last : makingChecks n s T ≡ checkReadings n s
+            unfolding inOrder
+            last = rw (good, room) (then-passes (checkReadings n s))
+
+            pub bad-reading : (why : Refusal) → Taking.Refused why ≡ takingBy (checkReadings n s)
+                → Made n s cs ks cs ks (Taking.Refused why)
+            bad-reading why e = refused why (last ∙ refused-refuses (checkReadings n s) why e)
+
+            pub taken : Taking.Taken ≡ takingBy (checkReadings n s) → (cs₁ : List ℤ) (ks₁ : List ℕ)
+                → Tabled n s cs ks cs₁ ks₁ → Made n s cs ks cs₁ ks₁ Taking.Taken
+            taken e cs₁ ks₁ t =
+                let ok = last ∙ taken-passes (checkReadings n s) e in
+                record { answer = rw ok; coefficients = rw ok (t .coefficients); codes = rw ok (t .codes) }

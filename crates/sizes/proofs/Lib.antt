@@ -1,0 +1,2 @@
+-- What the proof of `places` rests on.
+pub mod Powers

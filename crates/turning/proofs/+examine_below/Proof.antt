@@ -1,0 +1,248 @@
+-- `examine_below` examines the node it is at and then both its halves, the left one first, with the ranges reached
+-- there. Assumes nothing.
+use mathlib.Core.Path.{_≡_, sym, _∙_}
+use Prim.Native.Nat.{ℕ, _+_, _*_, _/_, _≤_, _<_}
+use native.Mathlib.Omega.{arith}
+use lib.IntN.{pos}
+use lib.ListN.{length, getD}
+use borrow.Fn.Kinds.{In}
+use borrow.Fn.PlainCycle.{Measures, is, falls, and}
+use borrow.Author.Needs.{needs}
+use Rattle.signed.proofs.Widths.{reads-back}
+use Rattle.om3.proofs.Rooms.{places-room, left-room, right-room}
+use Rattle.node.specs.Steps.{halvesOf}
+use Rattle.node.proofs.half_ranges.Reads as half-ranges-reads
+use Rattle.node.proofs.pair_hours.Reads as pair-hours-reads
+use Rattle.turning.proofs.examine_below.Reads as own
+use Rattle.turning.proofs.examine_below.Kinds as kinds
+use Rattle.turning.proofs.+examine_below.Lts-examine_below as lts
+use Rattle.turning.proofs.+examine_below.{statement}
+use Rattle.turning.proofs.+examine_below.Tie.{close}
+use Rattle.turning.proofs.in_series.Reads as in-series-reads
+use Rattle.turning.proofs.Examining as laws
+
+abbrev hoursOf : Measures 2 kinds.ps ℕ
+hoursOf κs a = a .1 .1 .1 .1 .1 .0
+
+abbrev at : ℕ → In 2 kinds.ps
+at t = and 2 kinds.ps (is 2 kinds.ps hoursOf t) own.Pre
+
+abbrev below : ℕ → In 2 kinds.ps
+below t = and 2 kinds.ps (falls 2 kinds.ps _<_ hoursOf t) own.Pre
+
+abbrev callees : ℕ → lts.Claims
+callees t = (
+  pair-hours-reads.Asked,
+  pair-hours-reads.Learnt,
+  in-series-reads.Asked,
+  in-series-reads.Learnt,
+  half-ranges-reads.Asked,
+  half-ranges-reads.Learnt,
+  below t,
+  own.Post,
+)
+
+-- Both details of a node of two halves stand in the coefficients.
+room : (t : ℕ) (c : lts.Else1 (callees t) (at t) own.Post)
+    → 2 * c .before .before .args .i .0 + 2 ≤ length (c .before .before .args .coefficients .now)
+room t c =
+    let w : 2 ≤ c .before .before .args .hours / 2 = omega (arith, c .if1 .left) in
+    places-room _ _ _ w (c .before .before .pre .1 .1 .1 .0)
+
+-- What the step down answers, for the details as they stand in the coefficients.
+step : (t : ℕ) (c : lts.After-half-ranges (callees t) (at t) own.Post) →
+    (let a = c .before .before .before .before .before .before .args in
+    halvesOf (a .range) (getD (a .coefficients .now) (2 * a .i .0) (pos 0))
+    (getD (a .coefficients .now) (2 * a .i .0 + 1) (pos 0)))
+    ≡ c .half-ranges .result
+step t c =
+    let a = c .before .before .before .before .before .before .args in
+    let cs = a .coefficients .now in
+    let d = reads-back (getD cs (2 * a .i .0) (pos 0)) (c .before .before .half-ranges-arg .given) in
+    let e = reads-back (getD cs (2 * a .i .0 + 1) (pos 0)) (c .before .half-ranges-arg2 .given) in
+    sym (rw (d, e) at (c .half-ranges .ensures))
+
+shared-slice-read-pair-hours : (t : ℕ) → lts.Need-shared-slice-read-pair-hours (callees t) (at t) own.Post
+shared-slice-read-pair-hours t c = omega (arith, c .before .before .before .pre)
+
+pair-hours-requires : (t : ℕ) → lts.Need-pair-hours-requires (callees t) (at t) own.Post
+pair-hours-requires t c κs = search needs
+
+enum-known-pair : (t : ℕ) → lts.Need-enum-known-pair (callees t) (at t) own.Post
+enum-known-pair t c = search needs
+
+enum-told : (t : ℕ) → lts.Need-enum-told (callees t) (at t) own.Post
+enum-told t c = search needs
+
+returns : (t : ℕ) → lts.Need-returns (callees t) (at t) own.Post
+returns t c =
+    let c2 = c .before .before in
+    let c4 = c2 .before .before in
+    let c6 = c4 .before .before in
+    laws.code-unsound _ _ _ _ _ _ _ (c6 .pre .1 .0) (c4 .if1 .taken)
+    (sym (c2 .pair-hours .ensures) ∙ c .enum-told .given .1)
+
+in-series-requires : (t : ℕ) → lts.Need-in-series-requires (callees t) (at t) own.Post
+in-series-requires t c κs = search needs
+
+add-t27 : (t : ℕ) → lts.Need-add-t27 (callees t) (at t) own.Post
+add-t27 t c =
+    let c9 = c .before .before .before .before .before .before .before .before .before in
+    omega (arith, c9 .pre, c9 .good)
+
+in-series-requires-2 : (t : ℕ) → lts.Need-in-series-requires-2 (callees t) (at t) own.Post
+in-series-requires-2 t c κs = search needs
+
+returns-2 : (t : ℕ) → lts.Need-returns-2 (callees t) (at t) own.Post
+returns-2 t c =
+    let c2 = c .before .before in
+    let c3 = c2 .before in
+    let c5 = c3 .before .before in
+    let c7 = c5 .before .before in
+    let c9 = c7 .before .before in
+    let c11 = c9 .before .before in
+    laws.pair-sound _ _ _ _ _ _ _ (c11 .pre .1 .0) (c9 .if1 .taken) _ _
+    (sym (c7 .pair-hours .ensures) ∙ c5 .pair .given .1)
+    (sym (c3 .in-series .ensures) ∙ c2 .if2 .taken)
+    (sym (c .before .in-series2 .ensures) ∙ c .if3 .taken)
+
+returns-3 : (t : ℕ) → lts.Need-returns-3 (callees t) (at t) own.Post
+returns-3 t c =
+    let c2 = c .before .before in
+    let c3 = c2 .before in
+    let c5 = c3 .before .before in
+    let c7 = c5 .before .before in
+    let c9 = c7 .before .before in
+    let c11 = c9 .before .before in
+    laws.second-late _ _ _ _ _ _ _ (c11 .pre .1 .0) (c9 .if1 .taken) _ _
+    (sym (c7 .pair-hours .ensures) ∙ c5 .pair .given .1)
+    (sym (c3 .in-series .ensures) ∙ c2 .if2 .taken)
+    (sym (c .before .in-series2 .ensures) ∙ c .if3 .left)
+
+returns-4 : (t : ℕ) → lts.Need-returns-4 (callees t) (at t) own.Post
+returns-4 t c =
+    let c3 = c .before .before .before in
+    let c5 = c3 .before .before in
+    let c7 = c5 .before .before in
+    let c9 = c7 .before .before in
+    laws.first-late _ _ _ _ _ _ _ (c9 .pre .1 .0) (c7 .if1 .taken) _ _
+    (sym (c5 .pair-hours .ensures) ∙ c3 .pair .given .1)
+    (sym (c .before .in-series .ensures) ∙ c .if2 .left)
+
+mul-low : (t : ℕ) → lts.Need-mul-low (callees t) (at t) own.Post
+mul-low t c = omega (arith, room t (c .before), c .before .before .before .good)
+
+add-high : (t : ℕ) → lts.Need-add-high (callees t) (at t) own.Post
+add-high t c = omega (arith, room t (c .before), c .before .before .before .good)
+
+mul-half-ranges : (t : ℕ) → lts.Need-mul-half-ranges (callees t) (at t) own.Post
+mul-half-ranges t c = omega (arith, room t (c .before), c .before .before .before .good)
+
+shared-slice-copy-out-half-ranges : (t : ℕ) → lts.Need-shared-slice-copy-out-half-ranges (callees t) (at t) own.Post
+shared-slice-copy-out-half-ranges t c = omega (arith, room t (c .before))
+
+mul-half-ranges-2 : (t : ℕ) → lts.Need-mul-half-ranges-2 (callees t) (at t) own.Post
+mul-half-ranges-2 t c = omega (arith, room t (c .before .before), c .before .before .before .before .good)
+
+shared-slice-copy-out-half-ranges-2 : (t : ℕ) → lts.Need-shared-slice-copy-out-half-ranges-2 (callees t) (at t) own.Post
+shared-slice-copy-out-half-ranges-2 t c = omega (arith, room t (c .before .before))
+
+half-ranges-requires : (t : ℕ) → lts.Need-half-ranges-requires (callees t) (at t) own.Post
+half-ranges-requires t c κs = c .before .before .before .before .before .pre .1 .1 .0
+
+enum-known-halves : (t : ℕ) → lts.Need-enum-known-halves (callees t) (at t) own.Post
+enum-known-halves t c = search needs
+
+enum-told-2 : (t : ℕ) → lts.Need-enum-told-2 (callees t) (at t) own.Post
+enum-told-2 t c = search needs
+
+returns-5 : (t : ℕ) → lts.Need-returns-5 (callees t) (at t) own.Post
+returns-5 t c =
+    let c2 = c .before .before in
+    let c6 = c2 .before .before .before .before in
+    laws.details-unsound _ _ _ _ _ _ _ (c6 .if1 .left) (step t c2 ∙ c .enum-told2 .given .1)
+
+examine-below-requires : (t : ℕ) → lts.Need-examine-below-requires (callees t) (at t) own.Post
+examine-below-requires t c κs =
+    let c3 = c .before .before .before in
+    let c7 = c3 .before .before .before .before in
+    let a = c7 .before .before .args in
+    let p = c7 .before .before .pre in
+    let w = c7 .if1 .left in
+    let h = step t c3 ∙ c .before .halves .given .1 in
+    let r = laws.left-readings (a .range) (a .coefficients .now) (a .i .0) (p .1 .1 .0) h in
+    (omega (arith, p), (omega arith, (r, (left-room _ _ _ (p .1 .1 .1 .0), omega (arith, p)))))
+
+enum-known-first : (t : ℕ) → lts.Need-enum-known-first (callees t) (at t) own.Post
+enum-known-first t c = search needs
+
+returns-6 : (t : ℕ) → lts.Need-returns-6 (callees t) (at t) own.Post
+returns-6 t c =
+    let c3 = c .before .before .before in
+    let c5 = c3 .before .before in
+    let c7 = c5 .before .before in
+    let c11 = c7 .before .before .before .before in
+    laws.left-unsound _ _ _ _ _ _ _ (c11 .if1 .left) _ _ (step t c7 ∙ c5 .halves .given .1) _
+    (c3 .examine-below .ensures) _ (c .before .first .given .1)
+
+enum-told-3 : (t : ℕ) → lts.Need-enum-told-3 (callees t) (at t) own.Post
+enum-told-3 t c = search needs
+
+add-t29 : (t : ℕ) → lts.Need-add-t29 (callees t) (at t) own.Post
+add-t29 t c =
+    let c12 = c .before .before .before .before .before .before .before .before .before .before .before .before in
+    omega (arith, c12 .pre, c12 .good)
+
+examine-below-requires-2 : (t : ℕ) → lts.Need-examine-below-requires-2 (callees t) (at t) own.Post
+examine-below-requires-2 t c κs =
+    let c4 = c .before .before .before .before in
+    let c6 = c4 .before .before in
+    let c10 = c6 .before .before .before .before in
+    let a = c10 .before .before .args in
+    let p = c10 .before .before .pre in
+    let w = c10 .if1 .left in
+    let h = step t c6 ∙ c4 .halves .given .1 in
+    let r = laws.right-readings (a .range) (a .coefficients .now) (a .i .0) (p .1 .1 .0) h in
+    (omega (arith, p), (omega arith, (r, (right-room _ _ _ (p .1 .1 .1 .0), omega (arith, p)))))
+
+returns-7 : (t : ℕ) → lts.Need-returns-7 (callees t) (at t) own.Post
+returns-7 t c =
+    let c3 = c .before .before .before in
+    let c5 = c3 .before .before in
+    let c7 = c5 .before .before in
+    let c11 = c7 .before .before .before .before in
+    laws.then-right _ _ _ _ _ _ _ (c11 .if1 .left) _ _ (step t c7 ∙ c5 .halves .given .1) _ (c3 .examine-below .ensures)
+    (c .before .enum-told3 .given .1) _ (c .examine-below2 .ensures)
+
+pub +examine-below-spec : {M : Type 1} → statement M
++examine-below-spec =
+    close hoursOf λ t.
+    lts.spec (callees t) (at t) own.Post
+    (shared-slice-read-pair-hours t)
+    (pair-hours-requires t)
+    (enum-known-pair t)
+    (enum-told t)
+    (returns t)
+    (in-series-requires t)
+    (add-t27 t)
+    (in-series-requires-2 t)
+    (returns-2 t)
+    (returns-3 t)
+    (returns-4 t)
+    (mul-low t)
+    (add-high t)
+    (mul-half-ranges t)
+    (shared-slice-copy-out-half-ranges t)
+    (mul-half-ranges-2 t)
+    (shared-slice-copy-out-half-ranges-2 t)
+    (half-ranges-requires t)
+    (enum-known-halves t)
+    (enum-told-2 t)
+    (returns-5 t)
+    (examine-below-requires t)
+    (enum-known-first t)
+    (returns-6 t)
+    (enum-told-3 t)
+    (add-t29 t)
+    (examine-below-requires-2 t)
+    (returns-7 t)

@@ -1,0 +1,177 @@
+-- What the examination below a node promises, at a pair and at a node of two halves, for each of its answers. Assumes
+-- nothing.
+use mathlib.Core.Path.{_≡_, refl, sym, ap, _∙_}
+use mathlib.Core.Bool.{Bool, true, false, _&&_}
+use mathlib.Core.List.{List, map, map-append}
+use Prim.Native.Nat.{ℕ, suc, _+_, _-_, _*_, _/_, _^_, _≤_, _<_}
+use native.Mathlib.Omega.{arith}
+use lib.IntN.{ℤ, pos}
+use lib.ListN.{getD}
+use Rattle.words.specs.declared.NodeId.{NodeId}
+use Rattle.words.specs.declared.Range.{Range}
+use Rattle.om3.specs.Series.{hour}
+use Rattle.om3.specs.Nodes.{Node, number, left, right, start, Located}
+use Rattle.om3.specs.Ranges.{Readings}
+use Rattle.om3.specs.Table.{Table}
+use Rattle.om3.specs.Down.{leftHalf, rightHalf, firstOfPair, secondOfPair, reached}
+use Rattle.om3.specs.Checks.{Check, passes, refuses, andThen, inOrder}
+use Rattle.om3.specs.Sound.{soundDetails, soundCode, gapFrom, soundNode, nodesBelow, examineNode}
+use Rattle.om3.proofs.Nodes.{pair-yes, pair-no, pair-half, start-hour}
+use Rattle.om3.proofs.Located.{above-hours, above-pairs, at-pair, left-located, right-located}
+use Rattle.om3.proofs.Reached.{reached-left, reached-right}
+use Rattle.om3.proofs.SoundDetails.{details}
+use Rattle.om3.proofs.Examined.{in-order-append}
+use Rattle.node.specs.declared.Halves.{Halves}
+use Rattle.node.specs.Steps.{halvesOf, pairOf}
+use Rattle.turning.specs.declared.Verdict.{Verdict}
+use Rattle.turning.specs.Turning.{lent, checkOf, examineNodes, Examined}
+use Rattle.turning.proofs.Answers.{Stepped, stepped, not-stepped}
+
+-- The halves of a sound node that is not a pair are ranges of readings.
+halves-readings : (r : Range) (d e : ℤ) → Readings r → {a b : Range} → halvesOf r d e ≡ Halves.Sound a b
+    → Readings a × Readings b
+halves-readings r d e p h =
+    let s = stepped (soundDetails r d e) (leftHalf r d e) (rightHalf r d e) h in
+    let halves = details r d e p (s .isSound) .halves in
+    (rw (s .first) (halves .readings-left), rw (s .second) (halves .readings-right))
+
+module _ (r : Range) (cs : List ℤ) (i : ℕ) (p : Readings r) {a b : Range}
+    (h : halvesOf r (getD cs (2 * i) (pos 0)) (getD cs (2 * i + 1) (pos 0)) ≡ Halves.Sound a b) where
+  pub left-readings : Readings a
+  left-readings = halves-readings r (getD cs (2 * i) (pos 0)) (getD cs (2 * i + 1) (pos 0)) p h .0
+
+  pub right-readings : Readings b
+  right-readings = halves-readings r (getD cs (2 * i) (pos 0)) (getD cs (2 * i + 1) (pos 0)) p h .1
+
+pub then-passes : (c : Check) → andThen c passes ≡ c
+then-passes passes = refl
+then-passes (refuses r) = refl
+
+same-number : {l : ℕ} {v : Node} {f w : ℕ} (i : NodeId) → Located l v (i .0) f w → number v ≡ i
+same-number i at = ap (λ (k : ℕ). record { 0 = k }) (at .numbered)
+
+-- A pair, and where its code stands.
+module _ {l : ℕ} {v : Node} {i f w : ℕ} (at : Located l v i f w) (two : 2 ≤ w) (four : w < 4) where
+  pub one-level : l - v .level ≡ 1
+  one-level = let p = at-pair at two four in omega arith
+
+  pub first-index : 2 * v .index ≡ f
+  first-index = sym (start-hour l (left v) (at-pair at two four)) ∙ left-located at two .begins
+
+  pub code-index : number v .0 - 2 ^ l / 2 ≡ f / 2
+  code-index = omega (arith, pair-half l v (at-pair at two four), first-index)
+
+module _ (n : ℕ) (cs : List ℤ) (ks : List ℕ) (i : NodeId) (f w : ℕ) (range : Range) where
+  abbrev T : Table
+  T = lent cs ks
+
+  -- At a pair.
+  module _ (two : 2 ≤ w) (four : w < 4) where
+    abbrev c : ℕ
+    c = getD ks (f / 2) 0
+
+    abbrev pairIsSound : Bool
+    pairIsSound =
+        soundCode range c && gapFrom n (hour f) (firstOfPair range c) && gapFrom n (hour (f + 1)) (secondOfPair range c)
+
+    module _ (l : ℕ) (v : Node) (at : Located l v (i .0) f w) (e : range ≡ reached l T v) where
+      sound-pair : soundNode l n T v ≡ pairIsSound
+      unfolding soundNode
+      sound-pair =
+          let first : start l (left v) ≡ f = left-located at two .begins in
+          let second : start l (right v) ≡ f + 1 = omega (arith, right-located at two .begins) in
+          rw (pair-yes l v (at-pair at two four), first, second, code-index at two four, ← e)
+
+      pair-alone : examineNodes l n T (nodesBelow (l - v .level) v) ≡ examineNode i pairIsSound
+      unfolding nodesBelow inOrder
+      pair-alone = rw (one-level at two four, sound-pair, same-number i at) (then-passes (examineNode i pairIsSound))
+
+    pair-examined : (r : Verdict) → checkOf r ≡ examineNode i pairIsSound → Examined n cs ks i f w range r
+    pair-examined r e = record { below = λ l v at g. e ∙ sym (pair-alone l v at g) }
+
+    pub code-unsound : pairOf range c ≡ Halves.Unsound → Examined n cs ks i f w range (Verdict.Unsound i)
+    code-unsound h =
+        let s = not-stepped (soundCode range c) (firstOfPair range c) (secondOfPair range c) h in
+        pair-examined (Verdict.Unsound i) (rw s)
+
+    module _ (a b : Range) (h : pairOf range c ≡ Halves.Sound a b) where
+      abbrev C : Stepped (soundCode range c) (firstOfPair range c) (secondOfPair range c) a b
+      C = stepped (soundCode range c) (firstOfPair range c) (secondOfPair range c) h
+
+      pub first-late : gapFrom n (hour f) a ≡ false → Examined n cs ks i f w range (Verdict.Unsound i)
+      first-late x = pair-examined (Verdict.Unsound i) (rw (C .isSound, rw (C .first) at x))
+
+      pub second-late : gapFrom n (hour f) a ≡ true → gapFrom n (hour (f + 1)) b ≡ false
+          → Examined n cs ks i f w range (Verdict.Unsound i)
+      second-late x y =
+          pair-examined (Verdict.Unsound i) (rw (C .isSound, rw (C .first) at x, rw (C .second) at y))
+
+      pub pair-sound : gapFrom n (hour f) a ≡ true → gapFrom n (hour (f + 1)) b ≡ true
+          → Examined n cs ks i f w range Verdict.Sound
+      pair-sound x y = pair-examined Verdict.Sound (rw (C .isSound, rw (C .first) at x, rw (C .second) at y))
+
+  -- At a node of two halves.
+  module _ (wide : 4 ≤ w) where
+    abbrev d : ℤ
+    d = getD cs (2 * i .0) (pos 0)
+
+    abbrev e : ℤ
+    e = getD cs (2 * i .0 + 1) (pos 0)
+
+    abbrev two : 2 ≤ w
+    two = omega arith
+
+    module _ (l : ℕ) (v : Node) (at : Located l v (i .0) f w) (g : range ≡ reached l T v) where
+      sound-node : soundNode l n T v ≡ soundDetails range d e
+      unfolding soundNode
+      sound-node = rw (pair-no l v (above-pairs at wide), at .numbered, ← g)
+
+      abbrev below : Node → Check
+      below u = examineNodes l n T (nodesBelow (l - suc (v .level)) u)
+
+      node-then : examineNodes l n T (nodesBelow (l - v .level) v)
+          ≡ andThen (examineNode i (soundDetails range d e)) (andThen (below (left v)) (below (right v)))
+      unfolding nodesBelow inOrder
+      node-then =
+          let m : l - v .level ≡ suc (l - suc (v .level)) = let p = above-hours at two in omega arith in
+          let L = nodesBelow (l - suc (v .level)) (left v) in
+          let R = nodesBelow (l - suc (v .level)) (right v) in
+          rw (m, sound-node, same-number i at)
+          (ap (andThen (examineNode i (soundDetails range d e)))
+          (ap inOrder (map-append (λ u. examineNode (number u) (soundNode l n T u)) L R)
+          ∙ in-order-append (map (λ u. examineNode (number u) (soundNode l n T u)) L) _))
+
+    pub details-unsound : halvesOf range d e ≡ Halves.Unsound → Examined n cs ks i f w range (Verdict.Unsound i)
+    details-unsound h =
+        let s = not-stepped (soundDetails range d e) (leftHalf range d e) (rightHalf range d e) h in
+        record { below = λ l v at g. sym (node-then l v at g ∙ rw s) }
+
+    module _ (a b : Range) (h : halvesOf range d e ≡ Halves.Sound a b) (r : Verdict)
+        (L : Examined n cs ks (record { 0 = 2 * i .0 }) f (w / 2) a r) where
+      abbrev H : Stepped (soundDetails range d e) (leftHalf range d e) (rightHalf range d e) a b
+      H = stepped (soundDetails range d e) (leftHalf range d e) (rightHalf range d e) h
+
+      module _ (l : ℕ) (v : Node) (at : Located l v (i .0) f w) (g : range ≡ reached l T v) where
+        left-reached : a ≡ reached l T (left v)
+        left-reached =
+            rw (reached-left l T v, pair-no l v (above-pairs at wide), at .numbered, ← g) (H .first)
+
+        right-reached : b ≡ reached l T (right v)
+        right-reached =
+            rw (reached-right l T v, pair-no l v (above-pairs at wide), at .numbered, ← g) (H .second)
+
+        halves-then : andThen (checkOf r) (below l v at g (right v)) ≡ examineNodes l n T (nodesBelow (l - v .level) v)
+        halves-then =
+            sym (node-then l v at g
+            ∙ rw (H .isSound, ← L .below l (left v) (left-located at two) left-reached))
+
+      pub left-unsound : (k : NodeId) → r ≡ Verdict.Unsound k → Examined n cs ks i f w range (Verdict.Unsound k)
+      left-unsound k z = record { below = λ l v at g. rw z at (halves-then l v at g) }
+
+      pub then-right : r ≡ Verdict.Sound → (q : Verdict)
+          → Examined n cs ks (record { 0 = 2 * i .0 + 1 }) (f + w / 2) (w / 2) b q → Examined n cs ks i f w range q
+      then-right z q R =
+          record {
+            below = λ l v at g.
+                R .below l (right v) (right-located at two) (right-reached l v at g) ∙ rw z at (halves-then l v at g);
+          }

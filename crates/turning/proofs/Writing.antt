@@ -1,0 +1,121 @@
+-- What writing the hours below a node promises, at a pair and at a node of two halves. Assumes nothing.
+use mathlib.Core.Path.{_≡_, sym, ap, _∙_}
+use mathlib.Core.Bool.{true}
+use mathlib.Core.List.{List}
+use Prim.Native.Nat.{ℕ, suc, _+_, _-_, _*_, _/_, _≤_, _<_}
+use native.Mathlib.Omega.{arith}
+use lib.IntN.{ℤ, pos}
+use lib.ListN.{getD, set}
+use Rattle.signed.proofs.Parts.{clash}
+use Rattle.words.specs.Said.{lowOf}
+use Rattle.words.specs.declared.Range.{Range}
+use Rattle.om3.specs.Lists.{every}
+use Rattle.om3.specs.Nodes.{Node, left, right, Located}
+use Rattle.om3.specs.Table.{Table}
+use Rattle.om3.specs.Down.{leftHalf, rightHalf, firstOfPair, secondOfPair, reached}
+use Rattle.om3.specs.Sound.{soundDetails, soundCode, soundNode, nodesBelow}
+use Rattle.om3.proofs.Tests.{and-left, and-right}
+use Rattle.om3.proofs.Nodes.{pair-yes, pair-no}
+use Rattle.om3.proofs.Located.{above-hours, above-pairs, at-pair, left-located, right-located}
+use Rattle.om3.proofs.Reached.{reached-left, reached-right}
+use Rattle.om3.proofs.NodeLists.{every-append}
+use Rattle.node.specs.declared.Halves.{Halves}
+use Rattle.node.specs.Steps.{halvesOf, pairOf}
+use Rattle.turning.specs.Turning.{lent, withHours, Written}
+use Rattle.turning.proofs.Answers.{Stepped, stepped, not-stepped}
+use Rattle.turning.proofs.Examining.{one-level, first-index, code-index}
+
+module _ (cs : List ℤ) (ks : List ℕ) (i f w : ℕ) (range : Range) (out : List ℤ) where
+  abbrev T : Table
+  T = lent cs ks
+
+  -- At a pair.
+  module _ (two : 2 ≤ w) (four : w < 4) where
+    abbrev c : ℕ
+    c = getD ks (f / 2) 0
+
+    module _ (l n : ℕ) (v : Node) (at : Located l v i f w) (g : range ≡ reached l T v) where
+      code-sound : every (soundNode l n T) (nodesBelow (l - v .level) v) ≡ true → soundCode range c ≡ true
+      unfolding nodesBelow every soundNode
+      code-sound ok =
+          let s = rw (one-level at two four, pair-yes l v (at-pair at two four), code-index at two four, ← g) at ok in
+          and-left (soundCode range c) _ (and-left _ _ (and-left _ _ s))
+
+      pair-hours : set (set out f (lowOf (firstOfPair range c))) (f + 1) (lowOf (secondOfPair range c))
+          ≡ withHours l T (l - v .level) v out
+      unfolding withHours
+      pair-hours =
+          let p = pair-yes l v (at-pair at two four) in
+          rw (one-level at two four, reached-left l T v, reached-right l T v, p, code-index at two four)
+          (rw (← g, first-index at two four))
+
+    pub pair-not-written : pairOf range c ≡ Halves.Unsound → Written cs ks i f w range out out
+    pair-not-written h =
+        record { below = λ l n v at g ok. clash (sym (not-stepped _ _ _ h) ∙ code-sound l n v at g ok) }
+
+    pub pair-written : (a b : Range) → pairOf range c ≡ Halves.Sound a b
+        → Written cs ks i f w range out (set (set out f (lowOf a)) (f + 1) (lowOf b))
+    pair-written a b h =
+        let s = stepped (soundCode range c) (firstOfPair range c) (secondOfPair range c) h in
+        record { below = λ l n v at g ok. rw (s .first, s .second) (pair-hours l n v at g) }
+
+  -- At a node of two halves.
+  module _ (wide : 4 ≤ w) where
+    abbrev d : ℤ
+    d = getD cs (2 * i) (pos 0)
+
+    abbrev e : ℤ
+    e = getD cs (2 * i + 1) (pos 0)
+
+    abbrev two : 2 ≤ w
+    two = omega arith
+
+    -- The node is sound, and so are all below its halves.
+    record AllSound (l n : ℕ) (v : Node) : Type 0 where
+      node : soundDetails range d e ≡ true
+      below-left : every (soundNode l n T) (nodesBelow (l - suc (v .level)) (left v)) ≡ true
+      below-right : every (soundNode l n T) (nodesBelow (l - suc (v .level)) (right v)) ≡ true
+
+    module _ (l n : ℕ) (v : Node) (at : Located l v i f w) (g : range ≡ reached l T v) where
+      one-more : l - v .level ≡ suc (l - suc (v .level))
+      one-more = let p = above-hours at two in omega arith
+
+      all-sound : every (soundNode l n T) (nodesBelow (l - v .level) v) ≡ true → AllSound l n v
+      unfolding nodesBelow every
+      all-sound ok =
+          let L = nodesBelow (l - suc (v .level)) (left v) in
+          let R = nodesBelow (l - suc (v .level)) (right v) in
+          let s = rw one-more at ok in
+          let q = sym (every-append (soundNode l n T) L R) ∙ and-right (soundNode l n T v) _ s in
+          record {
+            node = unfold soundNode in
+                rw (pair-no l v (above-pairs at wide), at .numbered, ← g) at (and-left (soundNode l n T v) _ s);
+            below-left = and-left (every (soundNode l n T) L) _ q;
+            below-right = and-right (every (soundNode l n T) L) _ q;
+          }
+
+    pub node-not-written : halvesOf range d e ≡ Halves.Unsound → Written cs ks i f w range out out
+    node-not-written h =
+        record { below = λ l n v at g ok. clash (sym (not-stepped _ _ _ h) ∙ all-sound l n v at g ok .node) }
+
+    module _ (a b : Range) (h : halvesOf range d e ≡ Halves.Sound a b) (out₁ out₂ : List ℤ)
+        (L : Written cs ks (2 * i) f (w / 2) a out out₁)
+        (R : Written cs ks (2 * i + 1) (f + w / 2) (w / 2) b out₁ out₂) where
+      abbrev H : Stepped (soundDetails range d e) (leftHalf range d e) (rightHalf range d e) a b
+      H = stepped (soundDetails range d e) (leftHalf range d e) (rightHalf range d e) h
+
+      halves-written : (l n : ℕ) (v : Node) → Located l v i f w → range ≡ reached l T v
+          → every (soundNode l n T) (nodesBelow (l - v .level) v) ≡ true → out₂ ≡ withHours l T (l - v .level) v out
+      unfolding withHours
+      halves-written l n v at g ok =
+          let p = pair-no l v (above-pairs at wide) in
+          let s = all-sound l n v at g ok in
+          let x : a ≡ reached l T (left v) = rw (reached-left l T v, p, at .numbered, ← g) (H .first) in
+          let y : b ≡ reached l T (right v) = rw (reached-right l T v, p, at .numbered, ← g) (H .second) in
+          rw (one-more l n v at g)
+          (R .below l n (right v) (right-located at two) y (s .below-right)
+          ∙ ap (withHours l T (l - suc (v .level)) (right v))
+          (L .below l n (left v) (left-located at two) x (s .below-left)))
+
+      pub node-written : Written cs ks i f w range out out₂
+      node-written = record { below = halves-written }

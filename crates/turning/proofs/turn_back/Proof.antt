@@ -1,0 +1,181 @@
+-- `turn_back` makes the checks in their order, each of which refuses with nothing written, and then writes the hours
+-- of a sound table into the first n places lent. Assumes nothing.
+use mathlib.Core.Path.{sym}
+use Prim.Native.Nat.{_<_}
+use native.Mathlib.Omega.{arith}
+use lib.ListN.{length}
+use lib.Seq.{length-take-le}
+use borrow.Author.Needs.{needs}
+use Rattle.om3.proofs.Levels.{2≤P}
+use Rattle.turning.proofs.AtRoot.{root-read, root-readings, root-hours}
+use Rattle.turning.proofs.TurningBack as laws
+use Rattle.turning.proofs.turn_back.Statement.{statement}
+use Rattle.turning.proofs.turn_back.Tie as tie
+
+returns : tie.Need-returns
+returns c = laws.no-hours _ _ _ _ (c .if1 .taken)
+
+returns-2 : tie.Need-returns-2
+returns-2 c = laws.many-hours _ _ _ _ (c .if2 .taken)
+
+places-requires : tie.Need-places-requires
+places-requires c κs = search needs
+
+returns-3 : tie.Need-returns-3
+returns-3 c =
+    let c2 = c .before .before in
+    laws.few-coefficients _ _ _ _ (c2 .before .if1 .left) (c2 .if2 .left) _ (c .before .places .ensures) (c .if3 .taken)
+
+returns-4 : tie.Need-returns-4
+returns-4 c =
+    let c2 = c .before .before in
+    let c3 = c2 .before in
+    laws.few-codes _ _ _ _ (c3 .before .if1 .left) (c3 .if2 .left) _ (c2 .places .ensures) (c .before .if3 .left)
+    (c .if4 .taken)
+
+returns-5 : tie.Need-returns-5
+returns-5 c =
+    let c3 = c .before .before .before in
+    let c4 = c3 .before in
+    laws.few-hours _ _ _ _ (c4 .before .if1 .left) (c4 .if2 .left) _ (c3 .places .ensures)
+    (c .before .before .if3 .left) (c .before .if4 .left) (c .if5 .taken)
+
+examine-requires : tie.Need-examine-requires
+examine-requires c κs = search needs
+
+enum-known-i : tie.Need-enum-known-i
+enum-known-i c = search needs
+
+returns-6 : tie.Need-returns-6
+returns-6 c =
+    let c3 = c .before .before .before in
+    let c4 = c3 .before in
+    let c7 = c4 .before .before .before in
+    let c8 = c7 .before in
+    let fits =
+    laws.enough _ _ _ _ (c8 .before .if1 .left) (c8 .if2 .left) _ (c7 .places .ensures)
+    (c4 .before .before .if3 .left) (c4 .before .if4 .left) (c4 .if5 .left)
+    in
+    laws.unsound-refused _ _ _ _ fits _ (c3 .examine .ensures) _ (c .before .i .given .1)
+
+enum-told : tie.Need-enum-told
+enum-told c = search needs
+
+shared-slice-copy-out-root-range : tie.Need-shared-slice-copy-out-root-range
+shared-slice-copy-out-root-range c =
+    let c5 = c .before .before .before .before .before in
+    let a = c5 .before .before .before .before .before .args in
+    let z : 0 < length (a .coefficients .now) =
+    omega (arith, 2≤P (a .n), c5 .if3 .left, c5 .before .places .ensures)
+    in
+    z
+
+shared-slice-copy-out-root-range-2 : tie.Need-shared-slice-copy-out-root-range-2
+shared-slice-copy-out-root-range-2 c =
+    let c6 = c .before .before .before .before .before .before in
+    let a = c6 .before .before .before .before .before .args in
+    let z : 1 < length (a .coefficients .now) =
+    omega (arith, 2≤P (a .n), c6 .if3 .left, c6 .before .places .ensures)
+    in
+    z
+
+root-range-requires : tie.Need-root-range-requires
+root-range-requires c κs = search needs
+
+enum-known-range : tie.Need-enum-known-range
+enum-known-range c = search needs
+
+slice-relend-prefix-write-below : tie.Need-slice-relend-prefix-write-below
+slice-relend-prefix-write-below c = search needs
+
+slice-aggregate-write-below : tie.Need-slice-aggregate-write-below
+slice-aggregate-write-below c =
+    let c10 = c .before .before .before .before .before .before .before .before .before .before in
+    sym (length-take-le _ _ (c10 .if5 .left))
+
+write-below-requires : tie.Need-write-below-requires
+write-below-requires c κs =
+    let c4 = c .before .before .before .before in
+    let c12 = c4 .before .before .before .before .before .before .before .before in
+    let c13 = c12 .before in
+    let a = c13 .before .before .before .before .args in
+    let x = c4 .before .before .root-range-arg .given in
+    let y = c4 .before .root-range-arg2 .given in
+    let r = root-read (a .coefficients .now) x y (c4 .root-range .ensures) (c .before .before .range .given .1) in
+    let e = c13 .places .ensures in
+    let z = 2≤P (a .n) in
+    let w = c12 .if3 .left in
+    let k = c4 .before .before .before .before .before .before .before .if4 .left in
+    let h = root-hours (a .n) (a .codes .now) _ e k in
+    (omega arith, (root-readings (a .coefficients .now) r, (omega arith, omega arith)))
+
+enum-told-2 : tie.Need-enum-told-2
+enum-told-2 c = search needs
+
+same-length : tie.Need-same-length
+same-length c = search needs
+
+returns-7 : tie.Need-returns-7
+returns-7 c =
+    let c6 = c .before .before .before .before .before .before in
+    let c9 = c6 .before .before .before in
+    let c11 = c9 .before .before in
+    let c12 = c11 .before in
+    let c15 = c12 .before .before .before in
+    let c16 = c15 .before in
+    let fits =
+    laws.enough _ _ _ _ (c16 .before .if1 .left) (c16 .if2 .left) _ (c15 .places .ensures)
+    (c12 .before .before .if3 .left) (c12 .before .if4 .left) (c12 .if5 .left)
+    in
+    let a = c16 .before .before .before .args in
+    let x = c6 .before .before .root-range-arg .given in
+    let y = c6 .before .root-range-arg2 .given in
+    let g = c .before .before .before .before .range .given .1 in
+    let r = root-read (a .coefficients .now) x y (c6 .root-range .ensures) g in
+    laws.hours-written _ _ _ _ fits _ (c11 .examine .ensures) (c9 .enum-told .given .1) _ r _ (c15 .places .ensures) _
+    (c .before .write-below .ensures)
+
+returns-8 : tie.Need-returns-8
+returns-8 c =
+    let c2 = c .before .before in
+    let c5 = c2 .before .before .before in
+    let c7 = c5 .before .before in
+    let c8 = c7 .before in
+    let c11 = c8 .before .before .before in
+    let c12 = c11 .before in
+    let a = c12 .before .before .before .args in
+    let fits =
+    laws.enough (a .n) (a .coefficients .now) (a .codes .now) (a .hours .now)
+    (c12 .before .if1 .left) (c12 .if2 .left) _ (c11 .places .ensures)
+    (c8 .before .before .if3 .left) (c8 .before .if4 .left) (c8 .if5 .left)
+    in
+    let x = c2 .before .before .root-range-arg .given in
+    let y = c2 .before .root-range-arg2 .given in
+    let r = root-read (a .coefficients .now) x y (c2 .root-range .ensures) (c .enum-told2 .given .1) in
+    absurd (laws.root-not-unsound _ _ _ _ fits _ (c7 .examine .ensures) (c5 .enum-told .given .1) r)
+
+pub turn-back-spec : {M : Type 1} → statement M
+turn-back-spec =
+    tie.close
+    (tie.spec
+    returns
+    returns-2
+    places-requires
+    returns-3
+    returns-4
+    returns-5
+    examine-requires
+    enum-known-i
+    returns-6
+    enum-told
+    shared-slice-copy-out-root-range
+    shared-slice-copy-out-root-range-2
+    root-range-requires
+    enum-known-range
+    slice-relend-prefix-write-below
+    slice-aggregate-write-below
+    write-below-requires
+    enum-told-2
+    same-length
+    returns-7
+    returns-8)

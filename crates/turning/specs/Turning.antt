@@ -1,0 +1,71 @@
+-- What examining and turning back promise. Cited by the contracts of this crate and of the boundary. Assumes nothing.
+--
+--   lent cs ks            two lent buffers as a table
+--   TableLent n cs ks     n is a number of hours, and both buffers are long enough
+--   checkOf r             what a verdict says, as a check
+--   examineNodes          the examination of a list of nodes
+--   Examined              the contract of the examination below a node
+--   withHours             a buffer with the hours below a node written
+--   Written               the contract of writing the hours below a node
+--   TurnedBack            the contract of `turn_back`: its answer, and the lent hours whole
+use mathlib.Core.Path.{_≡_}
+use mathlib.Core.Bool.{true}
+use mathlib.Core.List.{List, map}
+use Prim.Native.Nat.{ℕ, zero, suc, _-_, _/_, _≤_}
+use lib.IntN.{ℤ}
+use lib.ListN.{length, set}
+use Rattle.words.specs.Constants.{largestHours}
+use Rattle.words.specs.Said.{lowOf}
+use Rattle.words.specs.declared.NodeId.{NodeId}
+use Rattle.words.specs.declared.Range.{Range}
+use Rattle.words.specs.declared.Refusal.the-variants as refusal
+use Rattle.words.specs.declared.Taking.{Taking}
+use Rattle.om3.specs.Lists.{every}
+use Rattle.om3.specs.Series.{levels, P}
+use Rattle.om3.specs.Nodes.{Node, number, left, right, Located}
+use Rattle.om3.specs.Table.{Table}
+use Rattle.om3.specs.Down.{reached, turnedBack}
+use Rattle.om3.specs.Checks.{Check, passes, refuses, inOrder}
+use Rattle.om3.specs.Sound.{soundNode, nodesBelow, examineNode}
+use Rattle.om3.specs.Refusals.{turningBackChecks}
+use Rattle.om3.specs.Calls.{takingBy, writtenBy}
+use Rattle.turning.specs.declared.Verdict.{Verdict}
+
+abbrev pub lent : List ℤ → List ℕ → Table
+lent cs ks = record { coefficients = cs; codes = ks }
+
+pub record TableLent (n : ℕ) (cs : List ℤ) (ks : List ℕ) : Type 0 where
+  pub most : n ≤ largestHours
+  pub coefficients : P n ≤ length cs
+  pub codes : P n / 2 ≤ length ks
+
+-- What a verdict says, as a check. [refusals 4]
+abbrev pub checkOf : Verdict → Check
+checkOf Verdict.Sound = passes
+checkOf (Verdict.Unsound i) = refuses (refusal.Unsound i)
+
+-- The nodes of a list, examined in its order.
+abbrev pub examineNodes : (l n : ℕ) → Table → List Node → Check
+examineNodes l n t vs = inOrder (map (λ v. examineNode (number v) (soundNode l n t v)) vs)
+
+-- Node v with the range reached there, and all nodes below it. [sound 6]
+pub record Examined (n : ℕ) (cs : List ℤ) (ks : List ℕ) (i : NodeId) (f w : ℕ) (range : Range) (r : Verdict) : Type 0 where
+  pub below : (l : ℕ) (v : Node) → Located l v (i .0) f w → range ≡ reached l (lent cs ks) v
+      → checkOf r ≡ examineNodes l n (lent cs ks) (nodesBelow (l - v .level) v)
+
+-- The hours out with those of the single hours below node v, h levels down, as the table t gives them.
+unfoldable pub withHours : (l : ℕ) → Table → ℕ → Node → List ℤ → List ℤ
+withHours l t zero v out = set out (v .index) (lowOf (reached l t v))
+withHours l t (suc h) v out = withHours l t h (right v) (withHours l t h (left v) out)
+
+-- Below a node all of whose nodes are sound, in a series of some n hours.
+pub record Written (cs : List ℤ) (ks : List ℕ) (i f w : ℕ) (range : Range) (out out′ : List ℤ) : Type 0 where
+  pub below : (l n : ℕ) (v : Node) → Located l v i f w → range ≡ reached l (lent cs ks) v
+      → every (soundNode l n (lent cs ks)) (nodesBelow (l - v .level) v) ≡ true
+      → out′ ≡ withHours l (lent cs ks) (l - v .level) v out
+
+-- The table of n hours in lent coefficients cs and codes ks becomes n hours in the lent buffer out.
+-- [refusals 14, 15, 16, 17] [statements 1]
+pub record TurnedBack (n : ℕ) (cs : List ℤ) (ks : List ℕ) (out out′ : List ℤ) (r : Taking) : Type 0 where
+  pub answer : r ≡ takingBy (turningBackChecks n (lent cs ks) (length out))
+  pub hours : out′ ≡ writtenBy (turningBackChecks n (lent cs ks) (length out)) (turnedBack (levels n) (lent cs ks) n) out
