@@ -8,12 +8,13 @@ use lib.Dec.{leb}
 use lib.Pow.{pow-mono}
 use borrow.Author.Tests.{leb-true, ltb-false, not-true}
 use Rattle.words.specs.Constants.{dayHours}
+use Rattle.words.specs.declared.Stretch.{Stretch}
 use Rattle.words.specs.declared.Answer.{Answer}
 use Rattle.words.specs.declared.Answer.the-variants.{NoReading, Found}
 use Rattle.om3.specs.Series.{badHours, levels, P}
 use Rattle.om3.specs.Nodes.{Node, number}
 use Rattle.om3.specs.Refusals.{short}
-use Rattle.om3.specs.Level.{Stretch, hasLevel, levelStretch}
+use Rattle.om3.specs.Level.{hasLevel, levelStretch}
 use Rattle.om3.specs.Joined.{joined}
 use Rattle.om3.specs.Days.{day}
 use Rattle.om3.proofs.Tests.{and-left, and-right, neither}

@@ -1,6 +1,5 @@
 -- Document 01, "One level, single coefficients": one level's details. Assumes nothing.
 --
---   Stretch           places from `from` up to, not including, from + size
 --   hasLevel          whether there is a level j of details
 --   levelStretch      the places of level j's details in a table lent as coefficients for n hours
 --   levelPart         that stretch of the lent coefficients itself
@@ -10,12 +9,9 @@ use Prim.Native.Nat.{ℕ, _+_, _*_, _^_}
 use lib.Dec.{leb}
 use lib.IntN.{ℤ}
 use lib.ListN.{length, take, drop}
+use Rattle.words.specs.declared.Stretch.{Stretch}
 use Rattle.om3.specs.Series.{badHours, levels, P}
 use Rattle.om3.specs.Refusals.{short}
-
-pub record Stretch : Type 0 where
-  pub from : ℕ
-  pub size : ℕ
 
 -- A level is there for j up to l − 2, if n is 1 to 16,384 and the coefficients are not too short. [level 1, 2]
 abbrev pub hasLevel : (n j lent : ℕ) → Bool

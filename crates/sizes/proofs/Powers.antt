@@ -1,10 +1,12 @@
--- Doubling from 2 on reaches P before it passes it. Assumes nothing.
+-- Doubling from 2 on reaches P before it passes it; doubling counted times reaches the power. Assumes nothing.
 use mathlib.Core.Path.{_≡_, refl, ap, _∙_}
 use mathlib.Core.Logic.{⊎-elim}
-use Prim.Native.Nat.{ℕ, suc, _*_, _^_, _≤_, _<_}
+use Prim.Native.Nat.{ℕ, suc, _+_, _*_, _^_, _≤_, _<_}
 use native.Mathlib.Nat.{two-pow-succ, eq-or-lt-of-le, le-antisymm}
+use native.Mathlib.Numerals.{add-one}
 use native.Mathlib.Omega.{arith}
-use Rattle.words.specs.Constants.{largestHours}
+use lib.Pow.{pow-mono}
+use Rattle.words.specs.Constants.{largestLevel, largestHours}
 use Rattle.om3.specs.Series.{levels, P}
 use Rattle.om3.proofs.Levels.{levels-some, levels-least, n≤P}
 
@@ -39,3 +41,13 @@ module _ (n p : ℕ) (w : Power n p) where
   power-done enough =
       let least = levels-least n (w .exponent) (w .some) (omega (arith, w .is)) in
       w .is ∙ ap (λ (j : ℕ). 2 ^ j) (le-antisymm (w .within) least)
+
+-- The same of doubling a counted number of times.
+pub double-again : (p k : ℕ) → p ≡ 2 ^ k → p * 2 ≡ 2 ^ (k + 1)
+double-again p k e = rw (add-one k) (omega (arith, two-pow-succ k))
+
+pub double-fits : (p k : ℕ) → p ≡ 2 ^ k → k ≤ largestLevel → p ≤ largestHours
+double-fits p k e h = omega (arith, pow-mono h)
+
+pub doubled : (p k j : ℕ) → p ≡ 2 ^ k → k ≤ j → j ≤ k → p ≡ 2 ^ j
+doubled p k j e a b = e ∙ ap (λ (i : ℕ). 2 ^ i) (le-antisymm a b)

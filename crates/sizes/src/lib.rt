@@ -1,7 +1,7 @@
 // How large a table is.
 ghost use mathlib.Core.Path.{_≡_};
-ghost use Prim.Native.Nat.{_≤_};
-ghost use Rattle.words.specs.Constants.{largestHours};
+ghost use Prim.Native.Nat.{_≤_, _^_};
+ghost use Rattle.words.specs.Constants.{largestLevel, largestHours};
 ghost use Rattle.om3.specs.Series.{P};
 
 // P for n hours, which are not too many: the smallest power of two that is at least n and at least 2.
@@ -12,6 +12,20 @@ pub fn places(n: usize) -> usize
     let mut p = 2;
     while p < n {
         p = p * 2;
+    }
+    p
+}
+
+// 2^j, for a level j.
+pub fn power(j: usize) -> usize
+    requires { ⌜ j ≤ largestLevel ⌝ }
+    ensures { λ r. ⌜ r ≡ 2 ^ j ⌝ }
+{
+    let mut p = 1;
+    let mut k = 0;
+    while k < j {
+        p = p * 2;
+        k += 1;
     }
     p
 }

@@ -15,7 +15,7 @@ use Rattle.words.specs.declared.Range.{Range}
 use Rattle.om3.specs.Series.{levels, P}
 use Rattle.om3.specs.Nodes.{root}
 use Rattle.om3.specs.Ranges.{Readings}
-use Rattle.om3.specs.Table.{Table}
+use Rattle.om3.specs.Table.{Table, lent}
 use Rattle.om3.specs.Down.{rootRange, reachedAt, reached}
 use Rattle.om3.specs.Checks.{inOrder}
 use Rattle.om3.specs.Sound.{soundRootValues, examine}
@@ -26,7 +26,7 @@ use Rattle.om3.proofs.SoundDetails.{root-values}
 use Rattle.node.specs.declared.Root.{Root}
 use Rattle.node.specs.Steps.{rootOf}
 use Rattle.turning.specs.declared.Verdict.{Verdict}
-use Rattle.turning.specs.Turning.{lent, checkOf, Examined}
+use Rattle.turning.specs.Turning.{checkOf, Examined}
 use Rattle.turning.proofs.Answers.{Rooted, rooted, not-rooted}
 
 -- The root values, as handed to the step at node 1: it reads them back from their bits.

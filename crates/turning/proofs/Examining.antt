@@ -12,7 +12,7 @@ use Rattle.words.specs.declared.Range.{Range}
 use Rattle.om3.specs.Series.{hour}
 use Rattle.om3.specs.Nodes.{Node, number, left, right, start, Located}
 use Rattle.om3.specs.Ranges.{Readings}
-use Rattle.om3.specs.Table.{Table}
+use Rattle.om3.specs.Table.{Table, lent}
 use Rattle.om3.specs.Down.{leftHalf, rightHalf, firstOfPair, secondOfPair, reached}
 use Rattle.om3.specs.Checks.{Check, passes, refuses, andThen, inOrder}
 use Rattle.om3.specs.Sound.{soundDetails, soundCode, gapFrom, soundNode, nodesBelow, examineNode}
@@ -24,7 +24,7 @@ use Rattle.om3.proofs.Examined.{in-order-append}
 use Rattle.node.specs.declared.Halves.{Halves}
 use Rattle.node.specs.Steps.{halvesOf, pairOf}
 use Rattle.turning.specs.declared.Verdict.{Verdict}
-use Rattle.turning.specs.Turning.{lent, checkOf, examineNodes, Examined}
+use Rattle.turning.specs.Turning.{checkOf, examineNodes, Examined}
 use Rattle.turning.proofs.Answers.{Stepped, stepped, not-stepped}
 
 -- The halves of a sound node that is not a pair are ranges of readings.

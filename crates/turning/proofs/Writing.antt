@@ -11,7 +11,7 @@ use Rattle.words.specs.Said.{lowOf}
 use Rattle.words.specs.declared.Range.{Range}
 use Rattle.om3.specs.Lists.{every}
 use Rattle.om3.specs.Nodes.{Node, left, right, Located}
-use Rattle.om3.specs.Table.{Table}
+use Rattle.om3.specs.Table.{Table, lent}
 use Rattle.om3.specs.Down.{leftHalf, rightHalf, firstOfPair, secondOfPair, reached}
 use Rattle.om3.specs.Sound.{soundDetails, soundCode, soundNode, nodesBelow}
 use Rattle.om3.proofs.Tests.{and-left, and-right}
@@ -21,7 +21,7 @@ use Rattle.om3.proofs.Reached.{reached-left, reached-right}
 use Rattle.om3.proofs.NodeLists.{every-append}
 use Rattle.node.specs.declared.Halves.{Halves}
 use Rattle.node.specs.Steps.{halvesOf, pairOf}
-use Rattle.turning.specs.Turning.{lent, withHours, Written}
+use Rattle.turning.specs.Turning.{withHours, Written}
 use Rattle.turning.proofs.Answers.{Stepped, stepped, not-stepped}
 use Rattle.turning.proofs.Examining.{one-level, first-index, code-index}
 

@@ -1,6 +1,5 @@
 -- What examining and turning back promise. Cited by the contracts of this crate and of the boundary. Assumes nothing.
 --
---   lent cs ks            two lent buffers as a table
 --   TableLent n cs ks     n is a number of hours, and both buffers are long enough
 --   checkOf r             what a verdict says, as a check
 --   examineNodes          the examination of a list of nodes
@@ -23,16 +22,13 @@ use Rattle.words.specs.declared.Taking.{Taking}
 use Rattle.om3.specs.Lists.{every}
 use Rattle.om3.specs.Series.{levels, P}
 use Rattle.om3.specs.Nodes.{Node, number, left, right, Located}
-use Rattle.om3.specs.Table.{Table}
+use Rattle.om3.specs.Table.{Table, lent}
 use Rattle.om3.specs.Down.{reached, turnedBack}
 use Rattle.om3.specs.Checks.{Check, passes, refuses, inOrder}
 use Rattle.om3.specs.Sound.{soundNode, nodesBelow, examineNode}
 use Rattle.om3.specs.Refusals.{turningBackChecks}
 use Rattle.om3.specs.Calls.{takingBy, writtenBy}
 use Rattle.turning.specs.declared.Verdict.{Verdict}
-
-abbrev pub lent : List ℤ → List ℕ → Table
-lent cs ks = record { coefficients = cs; codes = ks }
 
 pub record TableLent (n : ℕ) (cs : List ℤ) (ks : List ℕ) : Type 0 where
   pub most : n ≤ largestHours
@@ -49,7 +45,8 @@ abbrev pub examineNodes : (l n : ℕ) → Table → List Node → Check
 examineNodes l n t vs = inOrder (map (λ v. examineNode (number v) (soundNode l n t v)) vs)
 
 -- Node v with the range reached there, and all nodes below it. [sound 6]
-pub record Examined (n : ℕ) (cs : List ℤ) (ks : List ℕ) (i : NodeId) (f w : ℕ) (range : Range) (r : Verdict) : Type 0 where
+pub record Examined (n : ℕ) (cs : List ℤ) (ks : List ℕ) (i : NodeId) (f w : ℕ) (range : Range)
+    (r : Verdict) : Type 0 where
   pub below : (l : ℕ) (v : Node) → Located l v (i .0) f w → range ≡ reached l (lent cs ks) v
       → checkOf r ≡ examineNodes l n (lent cs ks) (nodesBelow (l - v .level) v)
 
@@ -68,4 +65,5 @@ pub record Written (cs : List ℤ) (ks : List ℕ) (i f w : ℕ) (range : Range)
 -- [refusals 14, 15, 16, 17] [statements 1]
 pub record TurnedBack (n : ℕ) (cs : List ℤ) (ks : List ℕ) (out out′ : List ℤ) (r : Taking) : Type 0 where
   pub answer : r ≡ takingBy (turningBackChecks n (lent cs ks) (length out))
-  pub hours : out′ ≡ writtenBy (turningBackChecks n (lent cs ks) (length out)) (turnedBack (levels n) (lent cs ks) n) out
+  pub hours : out′
+      ≡ writtenBy (turningBackChecks n (lent cs ks) (length out)) (turnedBack (levels n) (lent cs ks) n) out

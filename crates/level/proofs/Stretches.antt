@@ -1,0 +1,89 @@
+-- When there is a level j of details, by the tests that the code makes, and where its stretch lies. Assumes nothing.
+use mathlib.Core.Path.{_≡_}
+use mathlib.Core.Bool.{Bool, true, false}
+use mathlib.Core.List.{List}
+use mathlib.Core.Logic.{⊎-elim}
+use Prim.Native.Nat.{ℕ, suc, _+_, _-_, _*_, _^_, _≤_, _<_}
+use native.Mathlib.Nat.{two-pow-succ}
+use native.Mathlib.Omega.{arith}
+use lib.IntN.{ℤ}
+use lib.ListN.{length, take, drop}
+use lib.Dec.{leb}
+use lib.Pow.{pow-mono, pow-pos}
+use borrow.Author.Tests.{eq-eqb, ne-eqb, lt-ltb, le-ltb, le-leb, lt-leb}
+use Rattle.words.specs.Constants.{largestLevel, largestHours}
+use Rattle.words.specs.declared.Stretch.{Stretch}
+use Rattle.om3.specs.Series.{levels, P}
+use Rattle.om3.specs.Level.{hasLevel, levelStretch, levelPart}
+use Rattle.om3.proofs.Tests.{below-or-not}
+use Rattle.om3.proofs.Levels.{levels-most}
+use Rattle.om3.proofs.Answers.{stretch-within}
+
+abbrev none : Stretch
+none = record { from = 0; size = 0 }
+
+abbrev details : ℕ → Stretch
+details w = record { from = 2 * w; size = 2 * w }
+
+module _ (n j lent : ℕ) where
+  not-there : hasLevel n j lent ≡ false → none ≡ levelStretch n j lent
+  unfolding levelStretch
+  not-there e = rw e
+
+  pub no-hours : n ≡ 0 → none ≡ levelStretch n j lent
+  no-hours z = not-there (rw (eq-eqb n 0 z))
+
+  module _ (some : n ≡ 0 → ⊥) where
+    pub too-many : largestHours < n → none ≡ levelStretch n j lent
+    too-many h = not-there (rw (ne-eqb n 0 some, lt-ltb largestHours n h))
+
+    module _ (most : n ≤ largestHours) where
+      pub too-short : lent < P n → none ≡ levelStretch n j lent
+      too-short h = not-there (rw (ne-eqb n 0 some, le-ltb largestHours n most, lt-ltb lent (P n) h))
+
+      module _ (room : P n ≤ lent) where
+        -- What is left to decide is whether j + 2 ≤ l.
+        by-level : (b : Bool) → leb (j + 2) (levels n) ≡ b → hasLevel n j lent ≡ b
+        by-level b e = rw (ne-eqb n 0 some, le-ltb largestHours n most, le-ltb lent (P n) room, e)
+
+        four : 2 ^ suc (suc j) ≡ 4 * 2 ^ j
+        four = omega (arith, two-pow-succ (suc j), two-pow-succ j)
+
+        pub too-deep : largestLevel ≤ j → none ≡ levelStretch n j lent
+        too-deep h =
+            let d : levels n < j + 2 = omega (arith, levels-most n) in
+            not-there (by-level false (lt-leb (j + 2) (levels n) d))
+
+        pub too-wide : P n < 4 * 2 ^ j → none ≡ levelStretch n j lent
+        too-wide h =
+            ⊎-elim (λ d. not-there (by-level false (lt-leb (j + 2) (levels n) d)))
+            (λ d.
+            let e : suc (suc j) ≤ levels n = omega arith in
+            absurd (omega (arith, four, pow-mono e)))
+            (below-or-not (levels n) (j + 2))
+
+        pub there : 4 * 2 ^ j ≤ P n → details (2 ^ j) ≡ levelStretch n j lent
+        unfolding levelStretch
+        there h =
+            ⊎-elim
+            (λ d.
+            let e : levels n ≤ suc j = omega arith in
+            absurd (omega (arith, two-pow-succ j, pow-mono e, pow-pos j)))
+            (λ d. rw (by-level true (le-leb (j + 2) (levels n) d)))
+            (below-or-not (levels n) (j + 2))
+
+-- 2^j of a level that can be there is no large number.
+pub small-power : (w j : ℕ) → w ≡ 2 ^ j → j < largestLevel → w ≤ largestHours
+small-power w j e h =
+    let d : j ≤ largestLevel = omega arith in
+    omega (arith, pow-mono d)
+
+-- The part that the code takes is the stretch of the coefficients.
+module _ (n j : ℕ) (cs : List ℤ) (r : Stretch) (e : r ≡ levelStretch n j (length cs)) where
+  pub part-fits : r .from + r .size ≤ length cs
+  part-fits = rw e (stretch-within n j (length cs))
+
+  pub part-is : take (r .from + r .size - r .from) (drop (r .from) cs) ≡ levelPart n j cs
+  part-is =
+      let m : r .from + r .size - r .from ≡ r .size = omega arith in
+      rw (m, e)

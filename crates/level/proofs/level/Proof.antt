@@ -1,0 +1,43 @@
+-- `level` takes the stretch, which lies within the lent coefficients. Assumes nothing.
+use native.Mathlib.Omega.{arith}
+use borrow.Author.Needs.{needs}
+use Rattle.level.proofs.level.Statement.{statement}
+use Rattle.level.proofs.level.Tie as tie
+use Rattle.level.proofs.Stretches.{part-fits, part-is}
+
+stretch-requires : tie.Need-stretch-requires
+stretch-requires c κs = search needs
+
+add-upto : tie.Need-add-upto
+add-upto c =
+    let c2 = c .before .before in
+    omega (arith, part-fits _ _ (c2 .args .coefficients .now) _ (c .before .stretch .ensures), c2 .good)
+
+mul-result : tie.Need-mul-result
+mul-result c =
+    let c2 = c .before .before in
+    omega (arith, part-fits _ _ (c2 .args .coefficients .now) _ (c .before .stretch .ensures), c2 .good)
+
+sub-result : tie.Need-sub-result
+sub-result c = search needs
+
+part-result-start : tie.Need-part-result-start
+part-result-start c = search needs
+
+part-result-end : tie.Need-part-result-end
+part-result-end c = part-fits _ _ (c .before .before .args .coefficients .now) _ (c .before .stretch .ensures)
+
+returns : tie.Need-returns
+returns c = part-is _ _ (c .before .before .before .args .coefficients .now) _ (c .before .before .stretch .ensures)
+
+pub level-spec : {M : Type 1} → statement M
+level-spec =
+    tie.close
+    (tie.spec
+    stretch-requires
+    add-upto
+    mul-result
+    sub-result
+    part-result-start
+    part-result-end
+    returns)

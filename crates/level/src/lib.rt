@@ -1,0 +1,43 @@
+// One level of the table.
+use words::Stretch;
+ghost use mathlib.Core.Path.{_≡_};
+ghost use Rattle.om3.specs.Level.{levelStretch, levelPart};
+
+// The places of level j's details in a table of n hours lent as so many coefficients, or no place.
+pub fn stretch(n: usize, j: usize, lent: usize) -> Stretch
+    ensures { λ r. ⌜ r ≡ levelStretch n j lent ⌝ }
+{
+    let none = Stretch { from: 0, size: 0 };
+    if n == 0 {
+        return none;
+    }
+    if n > words::LARGEST_HOURS {
+        return none;
+    }
+    let p = sizes::places(n);
+    if lent < p {
+        return none;
+    }
+    if words::LARGEST_LEVEL <= j {
+        return none;
+    }
+    let width = sizes::power(j);
+    if p < 4 * width {
+        return none;
+    }
+    Stretch {
+        from: 2 * width,
+        size: 2 * width,
+    }
+}
+
+// That stretch of the lent coefficients itself. This call returns no number: where there is no such level, and for the
+// causes of 1 and 3, its part has length 0.
+pub fn level(n: usize, j: usize, coefficients: &[i32]) -> &[i32]
+    ensures { λ r. ⌜ now r ≡ levelPart n j (now (coefficients .entry)) ⌝ }
+{
+    let places = stretch(n, j, coefficients.len());
+    let from = places.from;
+    let upto = from + places.size;
+    &coefficients[from..upto]
+}

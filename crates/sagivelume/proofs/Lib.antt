@@ -1,0 +1,2 @@
+-- What the boundary's proofs rest on.
+pub mod Handing
