@@ -1,5 +1,5 @@
 -- What `make` promises at each of its answers: the checks in their order, and the whole table. Assumes nothing.
-use mathlib.Core.Path.{_≡_, refl, _∙_}
+use mathlib.Core.Path.{_≡_, _∙_}
 use mathlib.Core.Bool.{true, false, _||_}
 use mathlib.Core.List.{List}
 use Prim.Native.Nat.{ℕ, _/_, _≤_, _<_}
@@ -15,23 +15,15 @@ use Rattle.words.specs.declared.Taking.{Taking}
 use Rattle.om3.specs.Series.{badHours, levels, P}
 use Rattle.om3.specs.Nodes.{root}
 use Rattle.om3.specs.Table.{Table, lent}
-use Rattle.om3.specs.Checks.{Check, passes, refuses, andThen, inOrder}
+use Rattle.om3.specs.Checks.{refuses, inOrder}
 use Rattle.om3.specs.Refusals.{short, tableShort, checkReadings, makingChecks}
 use Rattle.om3.specs.Calls.{takingBy}
 use Rattle.om3.proofs.Levels.{levels-some}
 use Rattle.om3.proofs.Located.{root-located}
+use Rattle.om3.proofs.Taken.{taken-passes, refused-refuses, making-decided}
 use Rattle.making.specs.Making.{Room, Filled, Tabled, Made}
 use Rattle.making.proofs.Details.{coefficients-made}
 use Rattle.making.proofs.Codes.{codes-made}
-
--- A call that is taken has passed its check; one that is refused was refused by it.
-pub taken-passes : (c : Check) → Taking.Taken ≡ takingBy c → c ≡ passes
-taken-passes passes e = refl
-taken-passes (refuses r) e = cc
-
-pub refused-refuses : (c : Check) (why : Refusal) → Taking.Refused why ≡ takingBy c → c ≡ refuses why
-refused-refuses passes why e = cc
-refused-refuses (refuses r) why e = cc
 
 -- The recursion over node 1, with its low and high written, leaves the table.
 module _ (n : ℕ) (s : List ℤ) (p : ℕ) (cs cs₁ : List ℤ) (ks ks₁ : List ℕ) (r : Range) where
@@ -94,13 +86,8 @@ module _ (n : ℕ) (s : List ℤ) (cs : List ℤ) (ks : List ℕ) where
             room : (short (length s) n || tableShort n T) ≡ false
             room = rw (le-ltb (length s) n read, le-ltb (length cs) (P n) details, le-ltb (length ks) (P n / 2) pairs)
 
-            then-passes : (c : Check) → andThen c passes ≡ c
-            then-passes passes = refl
-            then-passes (refuses why) = refl
-
             last : makingChecks n s T ≡ checkReadings n s
-            unfolding inOrder
-            last = rw (good, room) (then-passes (checkReadings n s))
+            last = making-decided n good s T room
 
             pub bad-reading : (why : Refusal) → Taking.Refused why ≡ takingBy (checkReadings n s)
                 → Made n s cs ks cs ks (Taking.Refused why)

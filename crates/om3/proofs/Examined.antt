@@ -27,6 +27,10 @@ pub refuse-not : (b : Bool) (r : Refusal) → refuseIf b r ≡ passes → b ≡ 
 refuse-not true r e = let z : passes ≡ refuses r = sym e in cc
 refuse-not false r e = refl
 
+pub then-passes : (c : Check) → andThen c passes ≡ c
+then-passes passes = refl
+then-passes (refuses r) = refl
+
 then-assoc : (c d e : Check) → andThen c (andThen d e) ≡ andThen (andThen c d) e
 then-assoc passes d e = refl
 then-assoc (refuses r) d e = refl

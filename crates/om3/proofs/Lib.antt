@@ -22,6 +22,7 @@ pub mod TurnedBack
 pub mod Agreeing
 pub mod Demand2
 pub mod Making
+pub mod Taken
 pub mod Bytes
 pub mod Edges
 pub mod Intervals

@@ -1,6 +1,6 @@
 -- What the examination below a node promises, at a pair and at a node of two halves, for each of its answers. Assumes
 -- nothing.
-use mathlib.Core.Path.{_≡_, refl, sym, ap, _∙_}
+use mathlib.Core.Path.{_≡_, sym, ap, _∙_}
 use mathlib.Core.Bool.{Bool, true, false, _&&_}
 use mathlib.Core.List.{List, map, map-append}
 use Prim.Native.Nat.{ℕ, suc, _+_, _-_, _*_, _/_, _^_, _≤_, _<_}
@@ -14,13 +14,13 @@ use Rattle.om3.specs.Nodes.{Node, number, left, right, start, Located}
 use Rattle.om3.specs.Ranges.{Readings}
 use Rattle.om3.specs.Table.{Table, lent}
 use Rattle.om3.specs.Down.{leftHalf, rightHalf, firstOfPair, secondOfPair, reached}
-use Rattle.om3.specs.Checks.{Check, passes, refuses, andThen, inOrder}
+use Rattle.om3.specs.Checks.{Check, andThen, inOrder}
 use Rattle.om3.specs.Sound.{soundDetails, soundCode, gapFrom, soundNode, nodesBelow, examineNode}
 use Rattle.om3.proofs.Nodes.{pair-yes, pair-no, pair-half, start-hour}
 use Rattle.om3.proofs.Located.{above-hours, above-pairs, at-pair, left-located, right-located}
 use Rattle.om3.proofs.Reached.{reached-left, reached-right}
 use Rattle.om3.proofs.SoundDetails.{details}
-use Rattle.om3.proofs.Examined.{in-order-append}
+use Rattle.om3.proofs.Examined.{in-order-append, then-passes}
 use Rattle.node.specs.declared.Halves.{Halves}
 use Rattle.node.specs.Steps.{halvesOf, pairOf}
 use Rattle.turning.specs.declared.Verdict.{Verdict}
@@ -42,10 +42,6 @@ module _ (r : Range) (cs : List ℤ) (i : ℕ) (p : Readings r) {a b : Range}
 
   pub right-readings : Readings b
   right-readings = halves-readings r (getD cs (2 * i) (pos 0)) (getD cs (2 * i + 1) (pos 0)) p h .1
-
-pub then-passes : (c : Check) → andThen c passes ≡ c
-then-passes passes = refl
-then-passes (refuses r) = refl
 
 same-number : {l : ℕ} {v : Node} {f w : ℕ} (i : NodeId) → Located l v (i .0) f w → number v ≡ i
 same-number i at = ap (λ (k : ℕ). record { 0 = k }) (at .numbered)

@@ -24,13 +24,12 @@ use Rattle.om3.proofs.Tests.{and-right}
 use Rattle.om3.proofs.Levels.{n≤P}
 use Rattle.om3.proofs.Located.{root-located}
 use Rattle.om3.proofs.TurnedBack.{turned-length}
-use Rattle.om3.proofs.Examined.{examine-sound}
+use Rattle.om3.proofs.Examined.{then-passes, examine-sound}
 use Rattle.node.specs.declared.Root.{Root}
 use Rattle.node.specs.Steps.{rootOf}
 use Rattle.turning.specs.declared.Verdict.{Verdict}
 use Rattle.om3.specs.Table.{lent}
 use Rattle.turning.specs.Turning.{checkOf, Written, TurnedBack}
-use Rattle.turning.proofs.Examining.{then-passes}
 use Rattle.turning.proofs.AtRoot.{root-unsound, root-reached}
 use Rattle.turning.proofs.AllWritten.{all-written}
 

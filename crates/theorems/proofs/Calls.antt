@@ -1,0 +1,199 @@
+-- Demand 2 for the calls: what their contracts say of a table that is turned back, and of going there and back. Assumes
+-- nothing.
+--
+--   WithRoom n cs ks out   n is a number of hours, and each buffer lent for turning back is long enough
+use mathlib.Core.Path.{_≡_, sym, ap, _∙_}
+use mathlib.Core.Bool.{true, false, _||_}
+use mathlib.Core.List.{List}
+use mathlib.Core.Logic.{_↔_}
+use Prim.Native.Nat.{ℕ, _/_, _≤_}
+use native.Mathlib.Omega.{arith}
+use lib.IntN.{ℤ}
+use lib.ListN.{length, getD, take, drop, length-append}
+use lib.Seq.{getD-take, take-append-seam}
+use borrow.Author.Tests.{le-ltb, ltb-false}
+use Rattle.words.specs.Constants.{largestHours, gap}
+use Rattle.words.specs.declared.Refusal.the-variants.{ShortBuffer}
+use Rattle.words.specs.declared.Taking.{Taking}
+use Rattle.om3.specs.Series.{Holds, Series, levels, P}
+use Rattle.om3.specs.Table.{Table, coefficient, codeOfPlace, tableOf, HasTable, lent}
+use Rattle.om3.specs.Down.{turnedBack}
+use Rattle.om3.specs.Checks.{passes, inOrder}
+use Rattle.om3.specs.Sound.{soundTable}
+use Rattle.om3.specs.Refusals.{short, tableShort, checkHours, checkRoom, examineTable}
+use Rattle.om3.specs.Refusals.{makingChecks, turningBackChecks}
+use Rattle.om3.specs.Calls.{filled}
+use Rattle.om3.proofs.Tests.{neither}
+use Rattle.om3.proofs.Lists.{map-up-length}
+use Rattle.om3.proofs.Examined.{examine-sound, then-first, then-second, refuse-not}
+use Rattle.om3.proofs.TurnedBack.{turned-length}
+use Rattle.om3.proofs.Demand2 as demand2
+use Rattle.om3.proofs.Making.{hours-some, making-series}
+use Rattle.om3.proofs.Taken.{taken-passes, good-hours, making-decided, turning-decided, readings-pass, table-first}
+use Rattle.making.specs.Making.{Made}
+use Rattle.turning.specs.Turning.{TurnedBack}
+
+pub record WithRoom (n : ℕ) (cs : List ℤ) (ks : List ℕ) (out : List ℤ) : Type 0 where
+  pub some : 1 ≤ n
+  pub most : n ≤ largestHours
+  pub table : tableShort n (lent cs ks) ≡ false
+  pub hours : n ≤ length out
+
+-- Turning back.
+module _ (n : ℕ) (cs : List ℤ) (ks : List ℕ) (out : List ℤ) where
+  abbrev T : Table
+  T = lent cs ks
+
+  -- Taken only with room.
+  taken-room : turningBackChecks n T (length out) ≡ passes → WithRoom n cs ks out
+  unfolding inOrder
+  taken-room e =
+      let few = hours-some n (then-first (checkHours n) _ e) in
+      let rest = then-second (checkHours n) _ e in
+      let three = checkRoom (tableShort n T || short (length out) n) in
+      let enough = refuse-not (tableShort n T || short (length out) n) ShortBuffer (then-first three _ rest) in
+      let parts = neither (tableShort n T) (short (length out) n) enough in
+      record { some = few .0; most = few .1; table = parts .0; hours = ltb-false (length out) n (parts .1) }
+
+  module _ (room : WithRoom n cs ks out) where
+    decided : turningBackChecks n T (length out) ≡ examineTable n T
+    decided =
+        turning-decided n (good-hours n (room .some) (room .most)) T (length out)
+        (rw (room .table, le-ltb (length out) n (room .hours)))
+
+    passes-sound : turningBackChecks n T (length out) ≡ passes → soundTable (levels n) n T ≡ true
+    passes-sound e = examine-sound (levels n) n T .0 (sym decided ∙ e)
+
+    sound-passes : soundTable (levels n) n T ≡ true → turningBackChecks n T (length out) ≡ passes
+    sound-passes s = decided ∙ examine-sound (levels n) n T .1 s
+
+    module _ (out′ : List ℤ) (r : Taking) (done : TurnedBack n cs ks out out′ r) where
+      -- It is taken exactly if some series of n hours has the table ..
+      pub taken-exactly : (r ≡ Taking.Taken) ↔ ((s : List ℤ) × Series n s × HasTable n s T)
+      taken-exactly =
+          let exactly = demand2.sound-exactly n (room .some) (room .most) T (room .table) in (
+            λ e. exactly .0 (passes-sound (taken-passes _ (sym e ∙ done .answer))),
+            λ h. rw (sound-passes (exactly .1 h)) at (done .answer),
+          )
+
+      -- .. and then writes that series, and nothing after it.
+      pub writes-series : (s : List ℤ) → Series n s → HasTable n s T → out′ ≡ filled s out
+      writes-series s series has =
+          let ok = sound-passes (demand2.has-sound n s T series has) in
+          let e = rw ok at (done .hours) in
+          e ∙ ap (λ (u : List ℤ). filled u out) (sym (demand2.has-turned n s T series has))
+
+-- A filled buffer begins with what it was filled with, and has room for it.
+module _ {A : Type 0} (new old : List A) (k : ℕ) (e : length new ≡ k) where
+  filled-first : take k (filled new old) ≡ new
+  filled-first = ap (λ (j : ℕ). take j (filled new old)) (sym e) ∙ take-append-seam new _
+
+  filled-room : k ≤ length (filled new old)
+  filled-room = let z = length-append new (drop (length new) old) in omega (arith, e, z)
+
+-- There and back.
+module _ (n : ℕ) where
+  abbrev l : ℕ
+  l = levels n
+
+  -- Turning back after making gives each reading and each gap at its own hour.
+  module _ (s cs cs′ : List ℤ) (ks ks′ : List ℕ) (made : Made n s cs ks cs′ ks′ Taking.Taken) where
+    made-passes : makingChecks n s (lent cs ks) ≡ passes
+    made-passes = taken-passes _ (made .answer)
+
+    abbrev first : List ℤ
+    first = take n s
+
+    first-series : Series n first
+    first-series = making-series n s (lent cs ks) made-passes
+
+    details : cs′ ≡ filled (tableOf l n first .coefficients) cs
+    details =
+        rw made-passes at (made .coefficients)
+        ∙ ap (λ (t : Table). filled (t .coefficients) cs) (table-first n s)
+
+    pairs : ks′ ≡ filled (tableOf l n first .codes) ks
+    pairs = rw made-passes at (made .codes) ∙ ap (λ (t : Table). filled (t .codes) ks) (table-first n s)
+
+    abbrev details-length : length (tableOf l n first .coefficients) ≡ P n
+    details-length = map-up-length (coefficient l n first) 0 (P n)
+
+    abbrev pairs-length : length (tableOf l n first .codes) ≡ P n / 2
+    pairs-length = map-up-length (codeOfPlace l n first) 0 (P n / 2)
+
+    has-table : HasTable n first (lent cs′ ks′)
+    has-table =
+        record {
+          coefficients = ap (take (P n)) details ∙ filled-first _ cs _ details-length;
+          codes = ap (take (P n / 2)) pairs ∙ filled-first _ ks _ pairs-length;
+        }
+
+    table-room : tableShort n (lent cs′ ks′) ≡ false
+    table-room =
+        let a : P n ≤ length cs′ = rw details (filled-room (tableOf l n first .coefficients) cs _ details-length) in
+        let b : P n / 2 ≤ length ks′ = rw pairs (filled-room (tableOf l n first .codes) ks _ pairs-length) in
+        rw (le-ltb (length cs′) (P n) a, le-ltb (length ks′) (P n / 2) b)
+
+    pub turned-back-after : (out out′ : List ℤ) (r : Taking) → n ≤ length out → TurnedBack n cs′ ks′ out out′ r
+        → (r ≡ Taking.Taken) × (out′ ≡ filled first out)
+    turned-back-after out out′ r hours done =
+        let room : WithRoom n cs′ ks′ out =
+        record { some = first-series .some; most = first-series .most; table = table-room; hours = hours } in (
+          taken-exactly n cs′ ks′ out room out′ r done .1 (first, first-series, has-table),
+          writes-series n cs′ ks′ out room out′ r done first first-series has-table,
+        )
+
+  -- Making what was turned back gives the same table.
+  module _ (cs : List ℤ) (ks : List ℕ) (out out′ : List ℤ) (done : TurnedBack n cs ks out out′ Taking.Taken) where
+    turned-passes : turningBackChecks n (lent cs ks) (length out) ≡ passes
+    turned-passes = taken-passes _ (done .answer)
+
+    abbrev room : WithRoom n cs ks out
+    room = taken-room n cs ks out turned-passes
+
+    abbrev again : List ℤ
+    again = turnedBack l (lent cs ks) n
+
+    again-series : Series n again
+    again-series =
+        demand2.turned-series n (room .some) (room .most) (lent cs ks) (passes-sound n cs ks out room turned-passes)
+
+    again-has : HasTable n again (lent cs ks)
+    again-has =
+        demand2.turned-has n (room .some) (room .most) (lent cs ks) (passes-sound n cs ks out room turned-passes)
+        (room .table)
+
+    written : out′ ≡ filled again out
+    written = rw turned-passes at (done .hours)
+
+    first-again : take n out′ ≡ again
+    first-again = ap (take n) written ∙ filled-first again out n (turned-length l (lent cs ks) n)
+
+    same-table : tableOf l n out′ ≡ tableOf l n again
+    same-table = table-first n out′ ∙ ap (tableOf l n) first-again
+
+    out-holds : Holds n out′
+    out-holds k h =
+        let e : getD out′ k gap ≡ getD again k gap =
+        sym (getD-take n out′ k gap h) ∙ ap (λ (u : List ℤ). getD u k gap) first-again in
+        rw e (again-series .holds k h)
+
+    module _ (cs₁ : List ℤ) (ks₁ : List ℕ) (room₁ : tableShort n (lent cs₁ ks₁) ≡ false) where
+      made-again : makingChecks n out′ (lent cs₁ ks₁) ≡ passes
+      made-again =
+          let size : n ≤ length out′ = rw written (filled-room again out n (turned-length l (lent cs ks) n)) in
+          making-decided n (good-hours n (room .some) (room .most)) out′ (lent cs₁ ks₁)
+          (rw (le-ltb (length out′) n size) room₁)
+          ∙ readings-pass n out′ out-holds
+
+      pub made-after : (cs₂ : List ℤ) (ks₂ : List ℕ) (r : Taking) → Made n out′ cs₁ ks₁ cs₂ ks₂ r
+          → (r ≡ Taking.Taken) × (cs₂ ≡ filled (take (P n) cs) cs₁) × (ks₂ ≡ filled (take (P n / 2) ks) ks₁)
+      made-after cs₂ ks₂ r made = (
+        rw made-again at (made .answer),
+        rw made-again at (made .coefficients)
+            ∙ ap (λ (t : Table). filled (t .coefficients) cs₁) same-table
+            ∙ ap (λ (u : List ℤ). filled u cs₁) (sym (again-has .coefficients)),
+        rw made-again at (made .codes)
+            ∙ ap (λ (t : Table). filled (t .codes) ks₁) same-table
+            ∙ ap (λ (u : List ℕ). filled u ks₁) (sym (again-has .codes)),
+      )

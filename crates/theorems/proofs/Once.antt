@@ -1,0 +1,41 @@
+-- A contract leaves nothing open: two results that it allows are equal, the answers and each lent buffer. Assumes
+-- nothing.
+use mathlib.Core.Path.{_≡_, sym, _∙_}
+use mathlib.Core.List.{List}
+use Prim.Native.Nat.{ℕ}
+use lib.IntN.{ℤ}
+use Rattle.words.specs.declared.Taking.{Taking}
+use Rattle.making.specs.Making.{Made}
+use Rattle.turning.specs.Turning.{TurnedBack}
+use Rattle.sagivelume.specs.declared.Told.{Told}
+use Rattle.sagivelume.specs.Boundary.{MakeTold, TurnBackTold}
+
+-- Where the contract is an equation, as it is for `level`, `stretch` and `sagivelume_level`.
+pub by-equation : {A : Type 0} {r r′ x : A} → r ≡ x → r′ ≡ x → r ≡ r′
+by-equation a b = a ∙ sym b
+
+module _ (n : ℕ) (s cs : List ℤ) (ks : List ℕ) where
+  module _ (cs₁ cs₂ : List ℤ) (ks₁ ks₂ : List ℕ) where
+    pub make-once : (r r′ : Taking) → Made n s cs ks cs₁ ks₁ r → Made n s cs ks cs₂ ks₂ r′
+        → (r ≡ r′) × (cs₁ ≡ cs₂) × (ks₁ ≡ ks₂)
+    make-once r r′ a b = (
+      by-equation (a .answer) (b .answer),
+      by-equation (a .coefficients) (b .coefficients),
+      by-equation (a .codes) (b .codes),
+    )
+
+    pub make-told-once : (r r′ : Told) → MakeTold n s cs ks cs₁ ks₁ r → MakeTold n s cs ks cs₂ ks₂ r′
+        → (r ≡ r′) × (cs₁ ≡ cs₂) × (ks₁ ≡ ks₂)
+    make-told-once r r′ a b =
+        let m = make-once _ _ (a .made) (b .made) in
+        (by-equation (a .answer) (b .answer), m .1, m .2)
+
+module _ (n : ℕ) (cs : List ℤ) (ks : List ℕ) (out out₁ out₂ : List ℤ) where
+  pub turn-back-once : (r r′ : Taking) → TurnedBack n cs ks out out₁ r → TurnedBack n cs ks out out₂ r′
+      → (r ≡ r′) × (out₁ ≡ out₂)
+  turn-back-once r r′ a b = (by-equation (a .answer) (b .answer), by-equation (a .hours) (b .hours))
+
+  pub turn-back-told-once : (r r′ : Told) → TurnBackTold n cs ks out out₁ r → TurnBackTold n cs ks out out₂ r′
+      → (r ≡ r′) × (out₁ ≡ out₂)
+  turn-back-told-once r r′ a b =
+      (by-equation (a .answer) (b .answer), turn-back-once _ _ (a .turned) (b .turned) .1)
