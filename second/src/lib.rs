@@ -25,6 +25,8 @@ pub mod answer;
 
 pub mod random;
 
+pub mod vectors;
+
 pub use columns::{edges, stopped, Column, Stopped};
 pub use finished::{day_change, finished, join, Answer, Finished, Found, Reading};
 pub use hours::{Hours, LowHigh, Node, Shape};

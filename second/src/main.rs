@@ -1,12 +1,14 @@
 //! The commands of the second program.
 
 use std::io::{self, BufRead, BufReader, BufWriter, Read, Write};
+use std::path::Path;
 use std::process::ExitCode;
 
 use second::answer::answer;
 use second::printer::{print, EXAMPLE};
+use second::vectors::written;
 
-const USAGE: &str = "usage: second print | second answer | second example";
+const USAGE: &str = "usage: second print | second answer | second example | second vectors DIR";
 
 fn main() -> ExitCode {
     let arguments: Vec<String> = std::env::args().skip(1).collect();
@@ -14,6 +16,7 @@ fn main() -> ExitCode {
         ["print"] => run_print(),
         ["answer"] => run_answer(),
         ["example"] => run_example(),
+        ["vectors", folder] => run_vectors(Path::new(folder)),
         _ => {
             eprintln!("{USAGE}");
             return ExitCode::from(2);
@@ -56,4 +59,16 @@ fn run_example() -> io::Result<()> {
     let mut output = io::stdout();
     writeln!(output, "{EXAMPLE}")?;
     output.write_all(&print(EXAMPLE.as_bytes()))
+}
+
+/// The vectors of making and turning back as `stdin` and `stdout` of a folder; how many calls had each outcome goes to
+/// standard error.
+fn run_vectors(folder: &Path) -> io::Result<()> {
+    let (input, output, outcomes) = written();
+    std::fs::write(folder.join("stdin"), input)?;
+    std::fs::write(folder.join("stdout"), output)?;
+    for (outcome, count) in outcomes {
+        eprintln!("{outcome}: {count}");
+    }
+    Ok(())
 }

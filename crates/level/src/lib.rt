@@ -32,7 +32,7 @@ pub fn stretch(n: usize, j: usize, lent: usize) -> Stretch
 }
 
 // That stretch of the lent coefficients itself. This call returns no number: where there is no such level, and for the
-// causes of 1 and 3, its part has length 0.
+// causes of 1 and 3, its part has length 0. [forms 5]
 pub fn level(n: usize, j: usize, coefficients: &[i32]) -> &[i32]
     ensures { λ r. ⌜ now r ≡ levelPart n j (now (coefficients .entry)) ⌝ }
 {

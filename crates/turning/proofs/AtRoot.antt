@@ -1,9 +1,8 @@
 -- Node 0 and node 1: the range that the root values give, and the examination of a whole table from there.
 -- Assumes nothing.
-use mathlib.Core.Path.{_≡_, sym, ap, _∙_}
+use mathlib.Core.Path.{_≡_, sym, _∙_}
 use mathlib.Core.List.{List}
-use Prim.Native.Nat.{ℕ, suc, _+_, _-_, _*_, _/_, _^_, _≤_, _<_}
-use native.Mathlib.Nat.{two-pow-succ}
+use Prim.Native.Nat.{ℕ, _-_, _*_, _/_, _^_, _≤_, _<_}
 use native.Mathlib.Omega.{arith}
 use lib.IntN.{ℤ, pos}
 use lib.ListN.{length, getD}
@@ -20,7 +19,7 @@ use Rattle.om3.specs.Down.{rootRange, reachedAt, reached}
 use Rattle.om3.specs.Checks.{inOrder}
 use Rattle.om3.specs.Sound.{soundRootValues, examine}
 use Rattle.om3.specs.Refusals.{examineTable}
-use Rattle.om3.proofs.Levels.{levels-some}
+use Rattle.om3.proofs.Levels.{P-even}
 use Rattle.om3.proofs.Located.{root-located}
 use Rattle.om3.proofs.SoundDetails.{root-values}
 use Rattle.node.specs.declared.Root.{Root}
@@ -46,11 +45,7 @@ module _ (cs : List ℤ) where
 
 -- Two halves of P make P.
 pub root-hours : (n : ℕ) (ks : List ℕ) (p : ℕ) → p ≡ P n → p / 2 ≤ length ks → p ≤ 2 * length ks
-root-hours n ks p pe h =
-    let o = levels-some n in
-    let e : levels n ≡ suc (levels n - 1) = omega arith in
-    let q : P n ≡ 2 ^ (levels n - 1) + 2 ^ (levels n - 1) = ap (λ (j : ℕ). 2 ^ j) e ∙ two-pow-succ (levels n - 1) in
-    omega arith
+root-hours n ks p pe h = omega (arith, P-even n)
 
 module _ (n : ℕ) (cs : List ℤ) (ks : List ℕ) where
   abbrev l : ℕ

@@ -1,0 +1,2 @@
+-- What the proofs of lending a buffer rest on.
+pub mod Within
