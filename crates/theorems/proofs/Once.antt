@@ -1,17 +1,22 @@
 -- A contract leaves nothing open: two results that it allows are equal, the answers and each lent buffer. Assumes
 -- nothing.
-use mathlib.Core.Path.{_≡_, sym, _∙_}
+use mathlib.Core.Path.{_≡_, refl, sym, _∙_}
 use mathlib.Core.List.{List}
 use Prim.Native.Nat.{ℕ}
 use lib.IntN.{ℤ}
+use lib.ListN.{length}
+use Rattle.words.specs.declared.Stretch.{Stretch}
 use Rattle.words.specs.declared.Taking.{Taking}
+use Rattle.om3.specs.Checks.{Check}
+use Rattle.om3.specs.Level.{levelStretch, levelPart}
 use Rattle.making.specs.Making.{Made}
-use Rattle.turning.specs.Turning.{TurnedBack}
+use Rattle.turning.specs.declared.Verdict.{Verdict}
+use Rattle.turning.specs.Turning.{checkOf, TurnedBack}
 use Rattle.sagivelume.specs.declared.Told.{Told}
-use Rattle.sagivelume.specs.Boundary.{MakeTold, TurnBackTold}
+use Rattle.sagivelume.specs.declared.Places.{Places}
+use Rattle.sagivelume.specs.Boundary.{placesOf, MakeTold, TurnBackTold}
 
--- Where the contract is an equation, as it is for `level`, `stretch` and `sagivelume_level`.
-pub by-equation : {A : Type 0} {r r′ x : A} → r ≡ x → r′ ≡ x → r ≡ r′
+by-equation : {A : Type 0} {r r′ x : A} → r ≡ x → r′ ≡ x → r ≡ r′
 by-equation a b = a ∙ sym b
 
 module _ (n : ℕ) (s cs : List ℤ) (ks : List ℕ) where
@@ -39,3 +44,25 @@ module _ (n : ℕ) (cs : List ℤ) (ks : List ℕ) (out out₁ out₂ : List ℤ
       → (r ≡ r′) × (out₁ ≡ out₂)
   turn-back-told-once r r′ a b =
       (by-equation (a .answer) (b .answer), turn-back-once _ _ (a .turned) (b .turned) .1)
+
+-- `examine` answers by a check; a check is of one verdict only.
+pub examine-once : (r r′ : Verdict) (c : Check) → checkOf r ≡ c → checkOf r′ ≡ c → r ≡ r′
+examine-once r r′ c a b = same r r′ (by-equation a b)
+  where
+    same : (v u : Verdict) → checkOf v ≡ checkOf u → v ≡ u
+    same Verdict.Sound Verdict.Sound e = refl
+    same Verdict.Sound (Verdict.Unsound i) e = cc
+    same (Verdict.Unsound i) Verdict.Sound e = cc
+    same (Verdict.Unsound i) (Verdict.Unsound k) e = cc
+
+-- The contracts of the level's calls are equations, as are those of all inner functions that are not named here.
+module _ (n j : ℕ) (cs : List ℤ) where
+  pub level-once : (r r′ : List ℤ) → r ≡ levelPart n j cs → r′ ≡ levelPart n j cs → r ≡ r′
+  level-once r r′ a b = by-equation a b
+
+  pub stretch-once : (r r′ : Stretch) → r ≡ levelStretch n j (length cs) → r′ ≡ levelStretch n j (length cs) → r ≡ r′
+  stretch-once r r′ a b = by-equation a b
+
+  pub level-told-once : (r r′ : Places) → r ≡ placesOf (levelStretch n j (length cs))
+      → r′ ≡ placesOf (levelStretch n j (length cs)) → r ≡ r′
+  level-told-once r r′ a b = by-equation a b
