@@ -18,7 +18,7 @@ pub const ONLY_LEFT: i32 = 2_000_001;
 /// Mark of a node of which only the right half has readings.
 pub const ONLY_RIGHT: i32 = 2_000_002;
 /// Mark of a node of which neither half has readings; root values without a reading hold it too.
-pub const NEITHER: i32 = 2_000_003;
+pub const NEITHER: i32 = GAP;
 
 /// A refusal: its number in document 01's list, and its place.
 #[derive(Clone, Copy, Debug, PartialEq, Eq)]

@@ -351,6 +351,7 @@ mod tests {
     #[test]
     fn series_hold_readings_and_gaps_until_spoilt() {
         let mut random = Random::new(1);
+        let mut spoilt = 0;
         for _ in 0..2_000 {
             let n = 1 + random.below(60) as usize;
             let mut readings = draw_series(&mut random, n);
@@ -358,7 +359,9 @@ mod tests {
             let no_reading = |held: &i32| !second::hours::is_reading(*held) && *held != GAP;
             assert!(!readings.iter().any(no_reading));
             spoil(&mut random, &mut readings);
+            spoilt += usize::from(readings.iter().any(no_reading));
         }
+        assert!(spoilt > 1_900);
         assert!(NO_READINGS.iter().all(|&held| !second::hours::is_reading(held) && held != GAP));
     }
 

@@ -7,12 +7,12 @@ use crate::refusal::Refusal;
 
 /// How a call ended: number 0 if it was taken, else the number of the refusal, with its place.
 #[repr(C)]
-pub struct Taking {
+pub struct Told {
     number: usize,
     place: usize,
 }
 
-impl Taking {
+impl Told {
     /// Taken, or the refusal.
     pub fn taken(self) -> Result<(), Refusal> {
         match self.number {
@@ -27,12 +27,12 @@ impl Taking {
 
 /// A part of a lent slice.
 #[repr(C)]
-pub struct Stretch {
+pub struct Places {
     start: usize,
     length: usize,
 }
 
-impl Stretch {
+impl Places {
     /// The part itself.
     pub fn of<T>(self, lent: &[T]) -> &[T] {
         &lent[self.start..][..self.length]
@@ -48,7 +48,7 @@ extern "C" {
         coefficients_length: usize,
         codes: *mut u8,
         codes_length: usize,
-    ) -> Taking;
+    ) -> Told;
 
     fn sagivelume_turn_back(
         n: usize,
@@ -58,15 +58,16 @@ extern "C" {
         codes_length: usize,
         hours: *mut i32,
         hours_length: usize,
-    ) -> Taking;
+    ) -> Told;
 
-    fn sagivelume_level(n: usize, j: usize, coefficients: *const i32, coefficients_length: usize) -> Stretch;
+    fn sagivelume_level(n: usize, j: usize, coefficients: *const i32, coefficients_length: usize) -> Places;
 }
 
 /// Makes a table.
-pub fn make(n: usize, readings: &[i32], coefficients: &mut [i32], codes: &mut [u8]) -> Taking {
+pub fn make(n: usize, readings: &[i32], coefficients: &mut [i32], codes: &mut [u8]) -> Told {
     // SAFETY: each pointer comes with the length of its own live slice, the slices written are lent to this call
-    // alone, and the store touches nothing outside them and keeps no pointer, which its contract states.
+    // alone, and the store touches nothing outside them and keeps no pointer: Rattle's references reach no further and
+    // end with the call, and its compiler is trusted for it.
     unsafe {
         sagivelume_make(
             n,
@@ -81,9 +82,10 @@ pub fn make(n: usize, readings: &[i32], coefficients: &mut [i32], codes: &mut [u
 }
 
 /// Turns a table back.
-pub fn turn_back(n: usize, coefficients: &[i32], codes: &[u8], hours: &mut [i32]) -> Taking {
+pub fn turn_back(n: usize, coefficients: &[i32], codes: &[u8], hours: &mut [i32]) -> Told {
     // SAFETY: each pointer comes with the length of its own live slice, the slice written is lent to this call
-    // alone, and the store touches nothing outside them and keeps no pointer, which its contract states.
+    // alone, and the store touches nothing outside them and keeps no pointer: Rattle's references reach no further and
+    // end with the call, and its compiler is trusted for it.
     unsafe {
         sagivelume_turn_back(
             n,
@@ -98,7 +100,7 @@ pub fn turn_back(n: usize, coefficients: &[i32], codes: &[u8], hours: &mut [i32]
 }
 
 /// The details of one level.
-pub fn level(n: usize, j: usize, coefficients: &[i32]) -> Stretch {
+pub fn level(n: usize, j: usize, coefficients: &[i32]) -> Places {
     // SAFETY: the pointer comes with the length of its own live slice, which the store only reads, if at all, and of
     // which it keeps no pointer.
     unsafe { sagivelume_level(n, j, coefficients.as_ptr(), coefficients.len()) }

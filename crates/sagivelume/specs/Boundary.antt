@@ -1,5 +1,5 @@
--- What the calls of the boundary promise: those of the calls they hand on to, with the answer as a flat struct. Assumes
--- nothing.
+-- What the calls of the boundary promise: the same as the calls they hand on to, with the answer as a flat struct.
+-- Assumes nothing.
 --
 --   toldOf t       the number and the place of an answer, 0 at 0 where the call is taken
 --   placesOf s     a stretch as the boundary answers it

@@ -45,7 +45,7 @@ module _ (n : ℕ) (cs : List ℤ) (ks : List ℕ) (out out₁ out₂ : List ℤ
   turn-back-told-once r r′ a b =
       (by-equation (a .answer) (b .answer), turn-back-once _ _ (a .turned) (b .turned) .1)
 
--- `examine` answers by a check; a check is of one verdict only.
+-- The contract of `examine` gives its verdict as a check; no two verdicts are the same check.
 pub examine-once : (r r′ : Verdict) (c : Check) → checkOf r ≡ c → checkOf r′ ≡ c → r ≡ r′
 examine-once r r′ c a b = same r r′ (by-equation a b)
   where
@@ -55,7 +55,8 @@ examine-once r r′ c a b = same r r′ (by-equation a b)
     same (Verdict.Unsound i) Verdict.Sound e = cc
     same (Verdict.Unsound i) (Verdict.Unsound k) e = cc
 
--- The contracts of the level's calls are equations, as are those of all inner functions that are not named here.
+-- The contracts of the level's calls are equations. Those of the recursions below a node are not: they speak of the
+-- nodes of a table alone, and no caller outside their crates sees them.
 module _ (n j : ℕ) (cs : List ℤ) where
   pub level-once : (r r′ : List ℤ) → r ≡ levelPart n j cs → r′ ≡ levelPart n j cs → r ≡ r′
   level-once r r′ a b = by-equation a b

@@ -1,16 +1,16 @@
 -- What examining and turning back promise. Cited by the contracts of this crate and of the boundary. Assumes nothing.
 --
---   TableLent n cs ks     n is a number of hours, and both buffers are long enough
+--   TableLent n cs ks     n is at most 16,384, and both buffers are long enough
 --   checkOf r             what a verdict says, as a check
 --   examineNodes          the examination of a list of nodes
---   Examined              the contract of the examination below a node
+--   Examined              the contract of the examination below a node; PairExamined, of a pair's
 --   withHours             a buffer with the hours below a node written
 --   Written               the contract of writing the hours below a node
 --   TurnedBack            the contract of `turn_back`: its answer, and the lent hours whole
 use mathlib.Core.Path.{_≡_}
 use mathlib.Core.Bool.{true}
 use mathlib.Core.List.{List, map}
-use Prim.Native.Nat.{ℕ, zero, suc, _-_, _/_, _≤_}
+use Prim.Native.Nat.{ℕ, zero, suc, _-_, _/_, _≤_, _<_}
 use lib.IntN.{ℤ}
 use lib.ListN.{length, set}
 use Rattle.words.specs.Constants.{largestHours}
@@ -49,6 +49,10 @@ pub record Examined (n : ℕ) (cs : List ℤ) (ks : List ℕ) (i : NodeId) (f w 
     (r : Verdict) : Type 0 where
   pub below : (l : ℕ) (v : Node) → Located l v (i .0) f w → range ≡ reached l (lent cs ks) v
       → checkOf r ≡ examineNodes l n (lent cs ks) (nodesBelow (l - v .level) v)
+
+-- A pair alone, whatever the coefficients are.
+pub record PairExamined (n : ℕ) (ks : List ℕ) (i : NodeId) (f : ℕ) (range : Range) (r : Verdict) : Type 0 where
+  pub pair : (cs : List ℤ) (w : ℕ) → 2 ≤ w → w < 4 → Examined n cs ks i f w range r
 
 -- The hours out with those of the single hours below node v, h levels down, as the table t gives them.
 unfoldable pub withHours : (l : ℕ) → Table → ℕ → Node → List ℤ → List ℤ

@@ -12,13 +12,12 @@ use Rattle.signed.proofs.Widths.{reads-back}
 use Rattle.om3.proofs.Rooms.{places-room, left-room, right-room}
 use Rattle.node.specs.Steps.{halvesOf}
 use Rattle.node.proofs.half_ranges.Reads as half-ranges-reads
-use Rattle.node.proofs.pair_hours.Reads as pair-hours-reads
 use Rattle.turning.proofs.examine_below.Reads as own
 use Rattle.turning.proofs.examine_below.Kinds as kinds
 use Rattle.turning.proofs.+examine_below.Lts-examine_below as lts
 use Rattle.turning.proofs.+examine_below.{statement}
 use Rattle.turning.proofs.+examine_below.Tie.{close}
-use Rattle.turning.proofs.in_series.Reads as in-series-reads
+use Rattle.turning.proofs.examine_pair.Reads as examine-pair-reads
 use Rattle.turning.proofs.Examining as laws
 
 abbrev hoursOf : Measures 2 kinds.ps ℕ
@@ -32,10 +31,8 @@ below t = and 2 kinds.ps (falls 2 kinds.ps _<_ hoursOf t) own.Pre
 
 abbrev callees : ℕ → lts.Claims
 callees t = (
-  pair-hours-reads.Asked,
-  pair-hours-reads.Learnt,
-  in-series-reads.Asked,
-  in-series-reads.Learnt,
+  examine-pair-reads.Asked,
+  examine-pair-reads.Learnt,
   half-ranges-reads.Asked,
   half-ranges-reads.Learnt,
   below t,
@@ -62,78 +59,19 @@ step t c =
     let e = reads-back (getD cs (2 * a .i .0 + 1) (pos 0)) (c .before .half-ranges-arg2 .given) in
     sym (rw (d, e) at (c .half-ranges .ensures))
 
-shared-slice-read-pair-hours : (t : ℕ) → lts.Need-shared-slice-read-pair-hours (callees t) (at t) own.Post
-shared-slice-read-pair-hours t c = omega (arith, c .before .before .before .pre)
-
-pair-hours-requires : (t : ℕ) → lts.Need-pair-hours-requires (callees t) (at t) own.Post
-pair-hours-requires t c κs = search needs
-
-enum-known-pair : (t : ℕ) → lts.Need-enum-known-pair (callees t) (at t) own.Post
-enum-known-pair t c = search needs
-
-enum-told : (t : ℕ) → lts.Need-enum-told (callees t) (at t) own.Post
-enum-told t c = search needs
+examine-pair-requires : (t : ℕ) → lts.Need-examine-pair-requires (callees t) (at t) own.Post
+examine-pair-requires t c κs = omega (arith, c .before .before .pre)
 
 returns : (t : ℕ) → lts.Need-returns (callees t) (at t) own.Post
 returns t c =
-    let c2 = c .before .before in
-    let c4 = c2 .before .before in
-    let c6 = c4 .before .before in
-    laws.code-unsound _ _ _ _ _ _ _ (c6 .pre .1 .0) (c4 .if1 .taken)
-    (sym (c2 .pair-hours .ensures) ∙ c .enum-told .given .1)
+    let c2 = c .before in
+    c .examine-pair .ensures .pair _ _ (c2 .before .before .pre .1 .0) (c2 .if1 .taken)
 
-in-series-requires : (t : ℕ) → lts.Need-in-series-requires (callees t) (at t) own.Post
-in-series-requires t c κs = search needs
+mul-left-number : (t : ℕ) → lts.Need-mul-left-number (callees t) (at t) own.Post
+mul-left-number t c = omega (arith, room t (c .before), c .before .before .before .good)
 
-add-t27 : (t : ℕ) → lts.Need-add-t27 (callees t) (at t) own.Post
-add-t27 t c =
-    let c9 = c .before .before .before .before .before .before .before .before .before in
-    omega (arith, c9 .pre, c9 .good)
-
-in-series-requires-2 : (t : ℕ) → lts.Need-in-series-requires-2 (callees t) (at t) own.Post
-in-series-requires-2 t c κs = search needs
-
-returns-2 : (t : ℕ) → lts.Need-returns-2 (callees t) (at t) own.Post
-returns-2 t c =
-    let c2 = c .before .before in
-    let c3 = c2 .before in
-    let c5 = c3 .before .before in
-    let c7 = c5 .before .before in
-    let c9 = c7 .before .before in
-    let c11 = c9 .before .before in
-    laws.pair-sound _ _ _ _ _ _ _ (c11 .pre .1 .0) (c9 .if1 .taken) _ _
-    (sym (c7 .pair-hours .ensures) ∙ c5 .pair .given .1)
-    (sym (c3 .in-series .ensures) ∙ c2 .if2 .taken)
-    (sym (c .before .in-series2 .ensures) ∙ c .if3 .taken)
-
-returns-3 : (t : ℕ) → lts.Need-returns-3 (callees t) (at t) own.Post
-returns-3 t c =
-    let c2 = c .before .before in
-    let c3 = c2 .before in
-    let c5 = c3 .before .before in
-    let c7 = c5 .before .before in
-    let c9 = c7 .before .before in
-    let c11 = c9 .before .before in
-    laws.second-late _ _ _ _ _ _ _ (c11 .pre .1 .0) (c9 .if1 .taken) _ _
-    (sym (c7 .pair-hours .ensures) ∙ c5 .pair .given .1)
-    (sym (c3 .in-series .ensures) ∙ c2 .if2 .taken)
-    (sym (c .before .in-series2 .ensures) ∙ c .if3 .left)
-
-returns-4 : (t : ℕ) → lts.Need-returns-4 (callees t) (at t) own.Post
-returns-4 t c =
-    let c3 = c .before .before .before in
-    let c5 = c3 .before .before in
-    let c7 = c5 .before .before in
-    let c9 = c7 .before .before in
-    laws.first-late _ _ _ _ _ _ _ (c9 .pre .1 .0) (c7 .if1 .taken) _ _
-    (sym (c5 .pair-hours .ensures) ∙ c3 .pair .given .1)
-    (sym (c .before .in-series .ensures) ∙ c .if2 .left)
-
-mul-low : (t : ℕ) → lts.Need-mul-low (callees t) (at t) own.Post
-mul-low t c = omega (arith, room t (c .before), c .before .before .before .good)
-
-add-high : (t : ℕ) → lts.Need-add-high (callees t) (at t) own.Post
-add-high t c = omega (arith, room t (c .before), c .before .before .before .good)
+add-right-number : (t : ℕ) → lts.Need-add-right-number (callees t) (at t) own.Post
+add-right-number t c = omega (arith, room t (c .before), c .before .before .before .good)
 
 mul-half-ranges : (t : ℕ) → lts.Need-mul-half-ranges (callees t) (at t) own.Post
 mul-half-ranges t c = omega (arith, room t (c .before), c .before .before .before .good)
@@ -153,14 +91,14 @@ half-ranges-requires t c κs = c .before .before .before .before .before .pre .1
 enum-known-halves : (t : ℕ) → lts.Need-enum-known-halves (callees t) (at t) own.Post
 enum-known-halves t c = search needs
 
-enum-told-2 : (t : ℕ) → lts.Need-enum-told-2 (callees t) (at t) own.Post
-enum-told-2 t c = search needs
+enum-told : (t : ℕ) → lts.Need-enum-told (callees t) (at t) own.Post
+enum-told t c = search needs
 
-returns-5 : (t : ℕ) → lts.Need-returns-5 (callees t) (at t) own.Post
-returns-5 t c =
+returns-2 : (t : ℕ) → lts.Need-returns-2 (callees t) (at t) own.Post
+returns-2 t c =
     let c2 = c .before .before in
     let c6 = c2 .before .before .before .before in
-    laws.details-unsound _ _ _ _ _ _ _ (c6 .if1 .left) (step t c2 ∙ c .enum-told2 .given .1)
+    laws.details-unsound _ _ _ _ _ _ _ (c6 .if1 .left) (step t c2 ∙ c .enum-told .given .1)
 
 examine-below-requires : (t : ℕ) → lts.Need-examine-below-requires (callees t) (at t) own.Post
 examine-below-requires t c κs =
@@ -176,8 +114,8 @@ examine-below-requires t c κs =
 enum-known-first : (t : ℕ) → lts.Need-enum-known-first (callees t) (at t) own.Post
 enum-known-first t c = search needs
 
-returns-6 : (t : ℕ) → lts.Need-returns-6 (callees t) (at t) own.Post
-returns-6 t c =
+returns-3 : (t : ℕ) → lts.Need-returns-3 (callees t) (at t) own.Post
+returns-3 t c =
     let c3 = c .before .before .before in
     let c5 = c3 .before .before in
     let c7 = c5 .before .before in
@@ -185,11 +123,11 @@ returns-6 t c =
     laws.left-unsound _ _ _ _ _ _ _ (c11 .if1 .left) _ _ (step t c7 ∙ c5 .halves .given .1) _
     (c3 .examine-below .ensures) _ (c .before .first .given .1)
 
-enum-told-3 : (t : ℕ) → lts.Need-enum-told-3 (callees t) (at t) own.Post
-enum-told-3 t c = search needs
+enum-told-2 : (t : ℕ) → lts.Need-enum-told-2 (callees t) (at t) own.Post
+enum-told-2 t c = search needs
 
-add-t29 : (t : ℕ) → lts.Need-add-t29 (callees t) (at t) own.Post
-add-t29 t c =
+add-t18 : (t : ℕ) → lts.Need-add-t18 (callees t) (at t) own.Post
+add-t18 t c =
     let c12 = c .before .before .before .before .before .before .before .before .before .before .before .before in
     omega (arith, c12 .pre, c12 .good)
 
@@ -205,44 +143,35 @@ examine-below-requires-2 t c κs =
     let r = laws.right-readings (a .range) (a .coefficients .now) (a .i .0) (p .1 .1 .0) h in
     (omega (arith, p), (omega arith, (r, (right-room _ _ _ (p .1 .1 .1 .0), omega (arith, p)))))
 
-returns-7 : (t : ℕ) → lts.Need-returns-7 (callees t) (at t) own.Post
-returns-7 t c =
+returns-4 : (t : ℕ) → lts.Need-returns-4 (callees t) (at t) own.Post
+returns-4 t c =
     let c3 = c .before .before .before in
     let c5 = c3 .before .before in
     let c7 = c5 .before .before in
     let c11 = c7 .before .before .before .before in
     laws.then-right _ _ _ _ _ _ _ (c11 .if1 .left) _ _ (step t c7 ∙ c5 .halves .given .1) _ (c3 .examine-below .ensures)
-    (c .before .enum-told3 .given .1) _ (c .examine-below2 .ensures)
+    (c .before .enum-told2 .given .1) _ (c .examine-below2 .ensures)
 
 pub +examine-below-spec : {M : Type 1} → statement M
 +examine-below-spec =
     close hoursOf λ t.
     lts.spec (callees t) (at t) own.Post
-    (shared-slice-read-pair-hours t)
-    (pair-hours-requires t)
-    (enum-known-pair t)
-    (enum-told t)
+    (examine-pair-requires t)
     (returns t)
-    (in-series-requires t)
-    (add-t27 t)
-    (in-series-requires-2 t)
-    (returns-2 t)
-    (returns-3 t)
-    (returns-4 t)
-    (mul-low t)
-    (add-high t)
+    (mul-left-number t)
+    (add-right-number t)
     (mul-half-ranges t)
     (shared-slice-copy-out-half-ranges t)
     (mul-half-ranges-2 t)
     (shared-slice-copy-out-half-ranges-2 t)
     (half-ranges-requires t)
     (enum-known-halves t)
-    (enum-told-2 t)
-    (returns-5 t)
+    (enum-told t)
+    (returns-2 t)
     (examine-below-requires t)
     (enum-known-first t)
-    (returns-6 t)
-    (enum-told-3 t)
-    (add-t29 t)
+    (returns-3 t)
+    (enum-told-2 t)
+    (add-t18 t)
     (examine-below-requires-2 t)
-    (returns-7 t)
+    (returns-4 t)

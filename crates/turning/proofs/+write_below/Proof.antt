@@ -107,11 +107,11 @@ returns-2 t c =
     laws.pair-not-written _ _ _ _ _ _ _ (c6 .pre .1 .0) (c4 .if1 .taken)
     (sym (c2 .pair-hours .ensures) ∙ c .enum-told .given .1)
 
-mul-low : (t : ℕ) → lts.Need-mul-low (callees t) (at t) own.Post
-mul-low t c = omega (arith, room t (c .before), c .before .before .before .good)
+mul-left-number : (t : ℕ) → lts.Need-mul-left-number (callees t) (at t) own.Post
+mul-left-number t c = omega (arith, room t (c .before), c .before .before .before .good)
 
-add-high : (t : ℕ) → lts.Need-add-high (callees t) (at t) own.Post
-add-high t c = omega (arith, room t (c .before), c .before .before .before .good)
+add-right-number : (t : ℕ) → lts.Need-add-right-number (callees t) (at t) own.Post
+add-right-number t c = omega (arith, room t (c .before), c .before .before .before .good)
 
 mul-half-ranges : (t : ℕ) → lts.Need-mul-half-ranges (callees t) (at t) own.Post
 mul-half-ranges t c = omega (arith, room t (c .before), c .before .before .before .good)
@@ -197,8 +197,8 @@ pub +write-below-spec : {M : Type 1} → statement M
     (same-length t)
     (returns t)
     (returns-2 t)
-    (mul-low t)
-    (add-high t)
+    (mul-left-number t)
+    (add-right-number t)
     (mul-half-ranges t)
     (shared-slice-copy-out-half-ranges t)
     (mul-half-ranges-2 t)

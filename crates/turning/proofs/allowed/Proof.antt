@@ -1,8 +1,8 @@
--- `in_series` makes the two tests of the definition, the hour's number first. Assumes nothing.
+-- `allowed` makes the two tests of the definition, the hour's number first. Assumes nothing.
 use borrow.Author.Needs.{needs}
 use borrow.Author.Tests.{lt-ltb, le-ltb}
-use Rattle.turning.proofs.in_series.Statement.{statement}
-use Rattle.turning.proofs.in_series.Tie as tie
+use Rattle.turning.proofs.allowed.Statement.{statement}
+use Rattle.turning.proofs.allowed.Tie as tie
 
 returns : tie.Need-returns
 returns c = rw (lt-ltb _ _ (c .if1 .taken))
@@ -19,5 +19,5 @@ returns-2 c = rw (le-ltb _ _ (c .before .before .if1 .left), c .enum-told .given
 returns-3 : tie.Need-returns-3
 returns-3 c = rw (le-ltb _ _ (c .before .before .if1 .left), c .enum-told2 .given .1)
 
-pub in-series-spec : {M : Type 1} → statement M
-in-series-spec = tie.close (tie.spec returns enum-told enum-told-2 returns-2 returns-3)
+pub allowed-spec : {M : Type 1} → statement M
+allowed-spec = tie.close (tie.spec returns enum-told enum-told-2 returns-2 returns-3)
