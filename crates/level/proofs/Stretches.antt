@@ -10,10 +10,10 @@ use lib.IntN.{ℤ}
 use lib.ListN.{length, take, drop}
 use lib.Dec.{leb}
 use lib.Pow.{pow-mono, pow-pos}
-use borrow.Author.Tests.{eq-eqb, ne-eqb, lt-ltb, le-ltb, le-leb, lt-leb}
+use borrow.Author.Tests.{lt-ltb, le-ltb, le-leb, lt-leb}
 use Rattle.words.specs.Constants.{largestLevel, largestHours}
 use Rattle.words.specs.declared.Stretch.{Stretch}
-use Rattle.om3.specs.Series.{levels, P}
+use Rattle.om3.specs.Series.{badHours, levels, P}
 use Rattle.om3.specs.Level.{hasLevel, levelStretch, levelPart}
 use Rattle.om3.proofs.Tests.{below-or-not}
 use Rattle.om3.proofs.Levels.{levels-most}
@@ -30,47 +30,43 @@ module _ (n j lent : ℕ) where
   unfolding levelStretch
   not-there e = rw e
 
-  pub no-hours : n ≡ 0 → none ≡ levelStretch n j lent
-  no-hours z = not-there (rw (eq-eqb n 0 z))
+  pub bad-hours : badHours n ≡ true → none ≡ levelStretch n j lent
+  bad-hours b = not-there (rw b)
 
-  module _ (some : n ≡ 0 → ⊥) where
-    pub too-many : largestHours < n → none ≡ levelStretch n j lent
-    too-many h = not-there (rw (ne-eqb n 0 some, lt-ltb largestHours n h))
+  module _ (good : badHours n ≡ false) where
+    pub too-short : lent < P n → none ≡ levelStretch n j lent
+    too-short h = not-there (rw (good, lt-ltb lent (P n) h))
 
-    module _ (most : n ≤ largestHours) where
-      pub too-short : lent < P n → none ≡ levelStretch n j lent
-      too-short h = not-there (rw (ne-eqb n 0 some, le-ltb largestHours n most, lt-ltb lent (P n) h))
+    module _ (room : P n ≤ lent) where
+      -- What is left to decide is whether j + 2 ≤ l.
+      by-level : (b : Bool) → leb (j + 2) (levels n) ≡ b → hasLevel n j lent ≡ b
+      by-level b e = rw (good, le-ltb lent (P n) room, e)
 
-      module _ (room : P n ≤ lent) where
-        -- What is left to decide is whether j + 2 ≤ l.
-        by-level : (b : Bool) → leb (j + 2) (levels n) ≡ b → hasLevel n j lent ≡ b
-        by-level b e = rw (ne-eqb n 0 some, le-ltb largestHours n most, le-ltb lent (P n) room, e)
+      four : 2 ^ suc (suc j) ≡ 4 * 2 ^ j
+      four = omega (arith, two-pow-succ (suc j), two-pow-succ j)
 
-        four : 2 ^ suc (suc j) ≡ 4 * 2 ^ j
-        four = omega (arith, two-pow-succ (suc j), two-pow-succ j)
+      pub too-deep : largestLevel ≤ j → none ≡ levelStretch n j lent
+      too-deep h =
+          let d : levels n < j + 2 = omega (arith, levels-most n) in
+          not-there (by-level false (lt-leb (j + 2) (levels n) d))
 
-        pub too-deep : largestLevel ≤ j → none ≡ levelStretch n j lent
-        too-deep h =
-            let d : levels n < j + 2 = omega (arith, levels-most n) in
-            not-there (by-level false (lt-leb (j + 2) (levels n) d))
+      pub too-wide : P n < 4 * 2 ^ j → none ≡ levelStretch n j lent
+      too-wide h =
+          ⊎-elim (λ d. not-there (by-level false (lt-leb (j + 2) (levels n) d)))
+          (λ d.
+          let e : suc (suc j) ≤ levels n = omega arith in
+          absurd (omega (arith, four, pow-mono e)))
+          (below-or-not (levels n) (j + 2))
 
-        pub too-wide : P n < 4 * 2 ^ j → none ≡ levelStretch n j lent
-        too-wide h =
-            ⊎-elim (λ d. not-there (by-level false (lt-leb (j + 2) (levels n) d)))
-            (λ d.
-            let e : suc (suc j) ≤ levels n = omega arith in
-            absurd (omega (arith, four, pow-mono e)))
-            (below-or-not (levels n) (j + 2))
-
-        pub there : 4 * 2 ^ j ≤ P n → details (2 ^ j) ≡ levelStretch n j lent
-        unfolding levelStretch
-        there h =
-            ⊎-elim
-            (λ d.
-            let e : levels n ≤ suc j = omega arith in
-            absurd (omega (arith, two-pow-succ j, pow-mono e, pow-pos j)))
-            (λ d. rw (by-level true (le-leb (j + 2) (levels n) d)))
-            (below-or-not (levels n) (j + 2))
+      pub there : 4 * 2 ^ j ≤ P n → details (2 ^ j) ≡ levelStretch n j lent
+      unfolding levelStretch
+      there h =
+          ⊎-elim
+          (λ d.
+          let e : levels n ≤ suc j = omega arith in
+          absurd (omega (arith, two-pow-succ j, pow-mono e, pow-pos j)))
+          (λ d. rw (by-level true (le-leb (j + 2) (levels n) d)))
+          (below-or-not (levels n) (j + 2))
 
 -- 2^j of a level that can be there is no large number.
 pub small-power : (w j : ℕ) → w ≡ 2 ^ j → j < largestLevel → w ≤ largestHours

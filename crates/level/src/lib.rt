@@ -8,10 +8,7 @@ pub fn stretch(n: usize, j: usize, lent: usize) -> Stretch
     ensures { λ r. ⌜ r ≡ levelStretch n j lent ⌝ }
 {
     let none = Stretch { from: 0, size: 0 };
-    if n == 0 {
-        return none;
-    }
-    if n > words::LARGEST_HOURS {
+    if sizes::bad_hours(n) {
         return none;
     }
     let p = sizes::places(n);

@@ -5,8 +5,7 @@ use mathlib.Core.List.{List}
 use Prim.Native.Nat.{ℕ, _/_, _≤_, _<_}
 use lib.IntN.{ℤ}
 use lib.ListN.{length, set}
-use borrow.Author.Tests.{eq-eqb, ne-eqb, lt-ltb, le-ltb}
-use Rattle.words.specs.Constants.{largestHours}
+use borrow.Author.Tests.{lt-ltb, le-ltb}
 use Rattle.words.specs.Said.{lowOf, highOf}
 use Rattle.words.specs.declared.Range.{Range}
 use Rattle.words.specs.declared.Refusal.{Refusal}
@@ -46,55 +45,45 @@ module _ (n : ℕ) (s : List ℤ) (cs : List ℤ) (ks : List ℕ) where
   refused : (why : Refusal) → makingChecks n s T ≡ refuses why → Made n s cs ks cs ks (Taking.Refused why)
   refused why e = record { answer = rw e; coefficients = rw e; codes = rw e }
 
-  pub no-hours : n ≡ 0 → Made n s cs ks cs ks (Taking.Refused BadHours)
-  no-hours z = refused BadHours checks
+  pub bad-hours : badHours n ≡ true → Made n s cs ks cs ks (Taking.Refused BadHours)
+  bad-hours b = refused BadHours checks
     where
       checks : makingChecks n s T ≡ refuses BadHours
-      checks = unfold inOrder in rw (eq-eqb n 0 z)
+      checks = unfold inOrder in rw b
 
-  module _ (some : n ≡ 0 → ⊥) where
-    pub too-many : largestHours < n → Made n s cs ks cs ks (Taking.Refused BadHours)
-    too-many h = refused BadHours checks
+  module _ (good : badHours n ≡ false) where
+    -- Any of the three buffers too short.
+    no-room : (short (length s) n || tableShort n T) ≡ true → Made n s cs ks cs ks (Taking.Refused ShortBuffer)
+    no-room e = refused ShortBuffer checks
       where
-        checks : makingChecks n s T ≡ refuses BadHours
-        checks = unfold inOrder in rw (ne-eqb n 0 some, lt-ltb largestHours n h)
+        checks : makingChecks n s T ≡ refuses ShortBuffer
+        checks = unfold inOrder in rw (good, e)
 
-    module _ (most : n ≤ largestHours) where
-      good : badHours n ≡ false
-      good = rw (ne-eqb n 0 some, le-ltb largestHours n most)
+    pub few-readings : length s < n → Made n s cs ks cs ks (Taking.Refused ShortBuffer)
+    few-readings h = no-room (rw (lt-ltb (length s) n h))
 
-      -- Any of the three buffers too short.
-      no-room : (short (length s) n || tableShort n T) ≡ true → Made n s cs ks cs ks (Taking.Refused ShortBuffer)
-      no-room e = refused ShortBuffer checks
-        where
-          checks : makingChecks n s T ≡ refuses ShortBuffer
-          checks = unfold inOrder in rw (good, e)
+    module _ (read : n ≤ length s) where
+      pub few-coefficients : length cs < P n → Made n s cs ks cs ks (Taking.Refused ShortBuffer)
+      few-coefficients h = no-room (rw (le-ltb (length s) n read, lt-ltb (length cs) (P n) h))
 
-      pub few-readings : length s < n → Made n s cs ks cs ks (Taking.Refused ShortBuffer)
-      few-readings h = no-room (rw (lt-ltb (length s) n h))
+      module _ (details : P n ≤ length cs) where
+        pub few-codes : length ks < P n / 2 → Made n s cs ks cs ks (Taking.Refused ShortBuffer)
+        few-codes h =
+            no-room (rw (le-ltb (length s) n read, le-ltb (length cs) (P n) details, lt-ltb (length ks) (P n / 2) h))
 
-      module _ (read : n ≤ length s) where
-        pub few-coefficients : length cs < P n → Made n s cs ks cs ks (Taking.Refused ShortBuffer)
-        few-coefficients h = no-room (rw (le-ltb (length s) n read, lt-ltb (length cs) (P n) h))
+        module _ (pairs : P n / 2 ≤ length ks) where
+          room : (short (length s) n || tableShort n T) ≡ false
+          room = rw (le-ltb (length s) n read, le-ltb (length cs) (P n) details, le-ltb (length ks) (P n / 2) pairs)
 
-        module _ (details : P n ≤ length cs) where
-          pub few-codes : length ks < P n / 2 → Made n s cs ks cs ks (Taking.Refused ShortBuffer)
-          few-codes h =
-              no-room (rw (le-ltb (length s) n read, le-ltb (length cs) (P n) details, lt-ltb (length ks) (P n / 2) h))
+          last : makingChecks n s T ≡ checkReadings n s
+          last = making-decided n good s T room
 
-          module _ (pairs : P n / 2 ≤ length ks) where
-            room : (short (length s) n || tableShort n T) ≡ false
-            room = rw (le-ltb (length s) n read, le-ltb (length cs) (P n) details, le-ltb (length ks) (P n / 2) pairs)
+          pub bad-reading : (why : Refusal) → Taking.Refused why ≡ takingBy (checkReadings n s)
+              → Made n s cs ks cs ks (Taking.Refused why)
+          bad-reading why e = refused why (last ∙ refused-refuses (checkReadings n s) why e)
 
-            last : makingChecks n s T ≡ checkReadings n s
-            last = making-decided n good s T room
-
-            pub bad-reading : (why : Refusal) → Taking.Refused why ≡ takingBy (checkReadings n s)
-                → Made n s cs ks cs ks (Taking.Refused why)
-            bad-reading why e = refused why (last ∙ refused-refuses (checkReadings n s) why e)
-
-            pub taken : Taking.Taken ≡ takingBy (checkReadings n s) → (cs₁ : List ℤ) (ks₁ : List ℕ)
-                → Tabled n s cs ks cs₁ ks₁ → Made n s cs ks cs₁ ks₁ Taking.Taken
-            taken e cs₁ ks₁ t =
-                let ok = last ∙ taken-passes (checkReadings n s) e in
-                record { answer = rw ok; coefficients = rw ok (t .coefficients); codes = rw ok (t .codes) }
+          pub taken : Taking.Taken ≡ takingBy (checkReadings n s) → (cs₁ : List ℤ) (ks₁ : List ℕ)
+              → Tabled n s cs ks cs₁ ks₁ → Made n s cs ks cs₁ ks₁ Taking.Taken
+          taken e cs₁ ks₁ t =
+              let ok = last ∙ taken-passes (checkReadings n s) e in
+              record { answer = rw ok; coefficients = rw ok (t .coefficients); codes = rw ok (t .codes) }

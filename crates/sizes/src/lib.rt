@@ -2,7 +2,14 @@
 ghost use mathlib.Core.Path.{_≡_};
 ghost use Prim.Native.Nat.{_≤_, _^_};
 ghost use Rattle.words.specs.Constants.{largestLevel, largestHours};
-ghost use Rattle.om3.specs.Series.{P};
+ghost use Rattle.om3.specs.Series.{badHours, P};
+
+// Check 1: whether n is 0 or over 16,384.
+pub fn bad_hours(n: usize) -> bool
+    ensures { λ r. ⌜ r ≡ badHours n ⌝ }
+{
+    n == 0 || words::LARGEST_HOURS < n
+}
 
 // P for n hours, which are not too many: the smallest power of two that is at least n and at least 2.
 pub fn places(n: usize) -> usize

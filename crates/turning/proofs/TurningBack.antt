@@ -1,25 +1,25 @@
 -- Each answer of turning back: its checks in their order, and the hours of a sound table. Assumes nothing.
 use mathlib.Core.Path.{_≡_, sym, _∙_}
-use mathlib.Core.Bool.{true}
+use mathlib.Core.Bool.{true, false}
 use mathlib.Core.List.{List, _++_}
 use Prim.Native.Nat.{ℕ, _-_, _/_, _≤_, _<_}
 use native.Mathlib.Omega.{arith}
 use lib.IntN.{ℤ, pos}
 use lib.ListN.{length, getD, take, drop}
 use lib.Seq.{length-take-le}
-use borrow.Author.Tests.{lt-ltb, le-ltb, eq-eqb, ne-eqb}
-use Rattle.words.specs.Constants.{largestHours}
+use borrow.Author.Tests.{lt-ltb, le-ltb}
 use Rattle.words.specs.declared.NodeId.{NodeId}
 use Rattle.words.specs.declared.Range.{Range}
 use Rattle.words.specs.declared.Refusal.{Refusal}
 use Rattle.words.specs.declared.Refusal.the-variants as refusal
 use Rattle.words.specs.declared.Taking.{Taking}
 use Rattle.om3.specs.Lists.{every}
-use Rattle.om3.specs.Series.{levels, P}
+use Rattle.om3.specs.Series.{badHours, levels, P}
 use Rattle.om3.specs.Nodes.{root}
 use Rattle.om3.specs.Checks.{Check, passes, refuses, inOrder}
 use Rattle.om3.specs.Sound.{soundRootValues, nodesBelow, soundTable, soundNode}
 use Rattle.om3.specs.Refusals.{examineTable, turningBackChecks}
+use Rattle.om3.proofs.Making.{good-some}
 use Rattle.om3.proofs.Tests.{and-right}
 use Rattle.om3.proofs.Levels.{n≤P}
 use Rattle.om3.proofs.Located.{root-located}
@@ -35,8 +35,7 @@ use Rattle.turning.proofs.AllWritten.{all-written}
 
 -- Checks 1 and 3 of turning back pass.
 pub record Enough (n : ℕ) (cs : List ℤ) (ks : List ℕ) (out : List ℤ) : Type 0 where
-  pub some : n ≡ 0 → ⊥
-  pub most : n ≤ largestHours
+  pub good : badHours n ≡ false
   pub coefficients : P n ≤ length cs
   pub codes : P n / 2 ≤ length ks
   pub hours : n ≤ length out
@@ -49,31 +48,23 @@ module _ (n : ℕ) (cs : List ℤ) (ks : List ℕ) (out : List ℤ) where
   refused : (why : Refusal) → checks ≡ refuses why → TurnedBack n cs ks out out (Taking.Refused why)
   refused why e = record { answer = rw e; hours = rw e }
 
-  pub no-hours : n ≡ 0 → TurnedBack n cs ks out out (Taking.Refused refusal.BadHours)
+  pub bad-hours : badHours n ≡ true → TurnedBack n cs ks out out (Taking.Refused refusal.BadHours)
   unfolding inOrder
-  no-hours e = refused refusal.BadHours (rw (eq-eqb n 0 e))
-
-  pub many-hours : largestHours < n → TurnedBack n cs ks out out (Taking.Refused refusal.BadHours)
-  unfolding inOrder
-  many-hours h =
-      let some : n ≡ 0 → ⊥ = λ e. omega arith in
-      refused refusal.BadHours (rw (ne-eqb n 0 some, lt-ltb largestHours n h))
+  bad-hours b = refused refusal.BadHours (rw b)
 
   -- n is a number of hours, and p is P.
-  module _ (some : n ≡ 0 → ⊥) (most : n ≤ largestHours) (p : ℕ) (e : p ≡ P n) where
+  module _ (good : badHours n ≡ false) (p : ℕ) (e : p ≡ P n) where
     pub few-coefficients : length cs < p → TurnedBack n cs ks out out (Taking.Refused refusal.ShortBuffer)
     unfolding inOrder
     few-coefficients h =
-        refused refusal.ShortBuffer
-        (rw (ne-eqb n 0 some, le-ltb largestHours n most, lt-ltb (length cs) (P n) (rw e at h)))
+        refused refusal.ShortBuffer (rw (good, lt-ltb (length cs) (P n) (rw e at h)))
 
     module _ (wide : p ≤ length cs) where
       pub few-codes : length ks < p / 2 → TurnedBack n cs ks out out (Taking.Refused refusal.ShortBuffer)
       unfolding inOrder
       few-codes h =
           let w = le-ltb (length cs) (P n) (rw e at wide) in
-          refused refusal.ShortBuffer
-          (rw (ne-eqb n 0 some, le-ltb largestHours n most, w, lt-ltb (length ks) (P n / 2) (rw e at h)))
+          refused refusal.ShortBuffer (rw (good, w, lt-ltb (length ks) (P n / 2) (rw e at h)))
 
       module _ (long : p / 2 ≤ length ks) where
         pub few-hours : length out < n → TurnedBack n cs ks out out (Taking.Refused refusal.ShortBuffer)
@@ -82,11 +73,11 @@ module _ (n : ℕ) (cs : List ℤ) (ks : List ℕ) (out : List ℤ) where
             let w = le-ltb (length cs) (P n) (rw e at wide) in
             let k = le-ltb (length ks) (P n / 2) (rw e at long) in
             refused refusal.ShortBuffer
-            (rw (ne-eqb n 0 some, le-ltb largestHours n most, w, k, lt-ltb (length out) n h))
+            (rw (good, w, k, lt-ltb (length out) n h))
 
         pub enough : n ≤ length out → Enough n cs ks out
         enough h =
-            record { some = some; most = most; coefficients = rw e at wide; codes = rw e at long; hours = h }
+            record { good = good; coefficients = rw e at wide; codes = rw e at long; hours = h }
 
   -- Only the table itself is still to examine.
   module _ (h : Enough n cs ks out) where
@@ -95,7 +86,7 @@ module _ (n : ℕ) (cs : List ℤ) (ks : List ℕ) (out : List ℤ) where
     examined =
         let w = le-ltb (length cs) (P n) (h .coefficients) in
         let k = le-ltb (length ks) (P n / 2) (h .codes) in
-        rw (ne-eqb n 0 (h .some), le-ltb largestHours n (h .most), w, k, le-ltb (length out) n (h .hours))
+        rw (h .good, w, k, le-ltb (length out) n (h .hours))
         (then-passes (examineTable n (lent cs ks)))
 
     pub unsound-refused : (r : Verdict) → checkOf r ≡ examineTable n (lent cs ks) → (i : NodeId) → r ≡ Verdict.Unsound i
@@ -122,7 +113,8 @@ module _ (n : ℕ) (cs : List ℤ) (ks : List ℕ) (out : List ℤ) where
           let z : l - 0 ≡ l = omega arith in
           let at = rw (← pe) at (root-located l) in
           let w = rw z at (W .below l n root at (root-reached n cs ks range q) nodes-sound) in
-          let f = w ∙ all-written l (lent cs ks) n (take n out) (n≤P n (h .most)) (length-take-le n out (h .hours)) in
+          let most = n≤P n (good-some n (h .good) .1) in
+          let f = w ∙ all-written l (lent cs ks) n (take n out) most (length-take-le n out (h .hours)) in
           record {
             answer = rw (examined ∙ taken);
             hours = rw (examined ∙ taken, turned-length l (lent cs ks) n, f);

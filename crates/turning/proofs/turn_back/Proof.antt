@@ -1,60 +1,71 @@
 -- `turn_back` makes the checks in their order, each of which refuses with nothing written, and then writes the hours
 -- of a sound table into the first n places lent. Assumes nothing.
-use mathlib.Core.Path.{sym}
+use mathlib.Core.Path.{sym, _∙_}
 use Prim.Native.Nat.{_<_}
 use native.Mathlib.Omega.{arith}
 use lib.ListN.{length}
 use lib.Seq.{length-take-le}
 use borrow.Author.Needs.{needs}
+use Rattle.om3.proofs.Making.{good-some}
 use Rattle.om3.proofs.Levels.{2≤P}
 use Rattle.turning.proofs.AtRoot.{root-read, root-readings, root-hours}
 use Rattle.turning.proofs.TurningBack as laws
 use Rattle.turning.proofs.turn_back.Statement.{statement}
 use Rattle.turning.proofs.turn_back.Tie as tie
 
-returns : tie.Need-returns
-returns c = laws.no-hours _ _ _ _ (c .if1 .taken)
+bad-hours-requires : tie.Need-bad-hours-requires
+bad-hours-requires c κs = search needs
 
-returns-2 : tie.Need-returns-2
-returns-2 c = laws.many-hours _ _ _ _ (c .if2 .taken)
+returns : tie.Need-returns
+returns c = laws.bad-hours _ _ _ _ (sym (c .before .bad-hours .ensures) ∙ c .if1 .taken)
 
 places-requires : tie.Need-places-requires
-places-requires c κs = search needs
+places-requires c κs = good-some _ (sym (c .before .bad-hours .ensures) ∙ c .if1 .left) .1
+
+returns-2 : tie.Need-returns-2
+returns-2 c =
+    let c2 = c .before .before in
+    laws.few-coefficients _ _ _ _ (sym (c2 .before .bad-hours .ensures) ∙ c2 .if1 .left) _
+    (c .before .places .ensures) (c .if2 .taken)
 
 returns-3 : tie.Need-returns-3
 returns-3 c =
     let c2 = c .before .before in
-    laws.few-coefficients _ _ _ _ (c2 .before .if1 .left) (c2 .if2 .left) _ (c .before .places .ensures) (c .if3 .taken)
+    let c3 = c2 .before in
+    laws.few-codes _ _ _ _ (sym (c3 .before .bad-hours .ensures) ∙ c3 .if1 .left) _
+    (c2 .places .ensures) (c .before .if2 .left)
+    (c .if3 .taken)
 
 returns-4 : tie.Need-returns-4
 returns-4 c =
-    let c2 = c .before .before in
-    let c3 = c2 .before in
-    laws.few-codes _ _ _ _ (c3 .before .if1 .left) (c3 .if2 .left) _ (c2 .places .ensures) (c .before .if3 .left)
-    (c .if4 .taken)
+    let c3 = c .before .before .before in
+    let c4 = c3 .before in
+    laws.few-hours _ _ _ _ (sym (c4 .before .bad-hours .ensures) ∙ c4 .if1 .left) _ (c3 .places .ensures)
+    (c .before .before .if2 .left) (c .before .if3 .left) (c .if4 .taken)
+
+examine-requires : tie.Need-examine-requires
+examine-requires c κs =
+    let c3 = c .before .before .before in
+    let c4 = c3 .before in
+    let p = c3 .places .ensures in
+    record {
+      most = good-some _ (sym (c4 .before .bad-hours .ensures) ∙ c4 .if1 .left) .1;
+      coefficients = rw p at (c .before .before .if2 .left);
+      codes = rw p at (c .before .if3 .left);
+    }
+
+enum-known-i : tie.Need-enum-known-i
+enum-known-i c = search needs
 
 returns-5 : tie.Need-returns-5
 returns-5 c =
     let c3 = c .before .before .before in
     let c4 = c3 .before in
-    laws.few-hours _ _ _ _ (c4 .before .if1 .left) (c4 .if2 .left) _ (c3 .places .ensures)
-    (c .before .before .if3 .left) (c .before .if4 .left) (c .if5 .taken)
-
-examine-requires : tie.Need-examine-requires
-examine-requires c κs = search needs
-
-enum-known-i : tie.Need-enum-known-i
-enum-known-i c = search needs
-
-returns-6 : tie.Need-returns-6
-returns-6 c =
-    let c3 = c .before .before .before in
-    let c4 = c3 .before in
     let c7 = c4 .before .before .before in
     let c8 = c7 .before in
     let fits =
-    laws.enough _ _ _ _ (c8 .before .if1 .left) (c8 .if2 .left) _ (c7 .places .ensures)
-    (c4 .before .before .if3 .left) (c4 .before .if4 .left) (c4 .if5 .left)
+    laws.enough _ _ _ _ (sym (c8 .before .bad-hours .ensures) ∙ c8 .if1 .left) _ (c7 .places .ensures)
+    (c4 .before .before .if2 .left) (c4 .before .if3 .left) (c4 .if4 .left)
     in
     laws.unsound-refused _ _ _ _ fits _ (c3 .examine .ensures) _ (c .before .i .given .1)
 
@@ -66,7 +77,7 @@ shared-slice-copy-out-root-range c =
     let c5 = c .before .before .before .before .before in
     let a = c5 .before .before .before .before .before .args in
     let z : 0 < length (a .coefficients .now) =
-    omega (arith, 2≤P (a .n), c5 .if3 .left, c5 .before .places .ensures)
+    omega (arith, 2≤P (a .n), c5 .if2 .left, c5 .before .places .ensures)
     in
     z
 
@@ -75,7 +86,7 @@ shared-slice-copy-out-root-range-2 c =
     let c6 = c .before .before .before .before .before .before in
     let a = c6 .before .before .before .before .before .args in
     let z : 1 < length (a .coefficients .now) =
-    omega (arith, 2≤P (a .n), c6 .if3 .left, c6 .before .places .ensures)
+    omega (arith, 2≤P (a .n), c6 .if2 .left, c6 .before .places .ensures)
     in
     z
 
@@ -91,7 +102,7 @@ slice-relend-prefix-write-below c = search needs
 slice-aggregate-write-below : tie.Need-slice-aggregate-write-below
 slice-aggregate-write-below c =
     let c10 = c .before .before .before .before .before .before .before .before .before .before in
-    sym (length-take-le _ _ (c10 .if5 .left))
+    sym (length-take-le _ _ (c10 .if4 .left))
 
 write-below-requires : tie.Need-write-below-requires
 write-below-requires c κs =
@@ -104,8 +115,8 @@ write-below-requires c κs =
     let r = root-read (a .coefficients .now) x y (c4 .root-range .ensures) (c .before .before .range .given .1) in
     let e = c13 .places .ensures in
     let z = 2≤P (a .n) in
-    let w = c12 .if3 .left in
-    let k = c4 .before .before .before .before .before .before .before .if4 .left in
+    let w = c12 .if2 .left in
+    let k = c4 .before .before .before .before .before .before .before .if3 .left in
     let h = root-hours (a .n) (a .codes .now) _ e k in
     (omega arith, (root-readings (a .coefficients .now) r, (omega arith, omega arith)))
 
@@ -115,8 +126,8 @@ enum-told-2 c = search needs
 same-length : tie.Need-same-length
 same-length c = search needs
 
-returns-7 : tie.Need-returns-7
-returns-7 c =
+returns-6 : tie.Need-returns-6
+returns-6 c =
     let c6 = c .before .before .before .before .before .before in
     let c9 = c6 .before .before .before in
     let c11 = c9 .before .before in
@@ -124,8 +135,8 @@ returns-7 c =
     let c15 = c12 .before .before .before in
     let c16 = c15 .before in
     let fits =
-    laws.enough _ _ _ _ (c16 .before .if1 .left) (c16 .if2 .left) _ (c15 .places .ensures)
-    (c12 .before .before .if3 .left) (c12 .before .if4 .left) (c12 .if5 .left)
+    laws.enough _ _ _ _ (sym (c16 .before .bad-hours .ensures) ∙ c16 .if1 .left) _ (c15 .places .ensures)
+    (c12 .before .before .if2 .left) (c12 .before .if3 .left) (c12 .if4 .left)
     in
     let a = c16 .before .before .before .args in
     let x = c6 .before .before .root-range-arg .given in
@@ -135,8 +146,8 @@ returns-7 c =
     laws.hours-written _ _ _ _ fits _ (c11 .examine .ensures) (c9 .enum-told .given .1) _ r _ (c15 .places .ensures) _
     (c .before .write-below .ensures)
 
-returns-8 : tie.Need-returns-8
-returns-8 c =
+returns-7 : tie.Need-returns-7
+returns-7 c =
     let c2 = c .before .before in
     let c5 = c2 .before .before .before in
     let c7 = c5 .before .before in
@@ -146,8 +157,8 @@ returns-8 c =
     let a = c12 .before .before .before .args in
     let fits =
     laws.enough (a .n) (a .coefficients .now) (a .codes .now) (a .hours .now)
-    (c12 .before .if1 .left) (c12 .if2 .left) _ (c11 .places .ensures)
-    (c8 .before .before .if3 .left) (c8 .before .if4 .left) (c8 .if5 .left)
+    (sym (c12 .before .bad-hours .ensures) ∙ c12 .if1 .left) _ (c11 .places .ensures)
+    (c8 .before .before .if2 .left) (c8 .before .if3 .left) (c8 .if4 .left)
     in
     let x = c2 .before .before .root-range-arg .given in
     let y = c2 .before .root-range-arg2 .given in
@@ -158,15 +169,15 @@ pub turn-back-spec : {M : Type 1} → statement M
 turn-back-spec =
     tie.close
     (tie.spec
+    bad-hours-requires
     returns
-    returns-2
     places-requires
+    returns-2
     returns-3
     returns-4
-    returns-5
     examine-requires
     enum-known-i
-    returns-6
+    returns-5
     enum-told
     shared-slice-copy-out-root-range
     shared-slice-copy-out-root-range-2
@@ -177,5 +188,5 @@ turn-back-spec =
     write-below-requires
     enum-told-2
     same-length
-    returns-7
-    returns-8)
+    returns-6
+    returns-7)
