@@ -1,11 +1,17 @@
 -- `stretch` makes the tests of the definition, powers of two for levels. Assumes nothing.
-use mathlib.Core.Path.{sym, _∙_}
+use mathlib.Core.Path.{_≡_, sym, _∙_}
+use mathlib.Core.Bool.{false}
 use native.Mathlib.Omega.{arith}
 use borrow.Author.Needs.{needs}
+use Rattle.om3.specs.Series.{badHours}
 use Rattle.om3.proofs.Making.{good-some}
 use Rattle.level.proofs.stretch.Statement.{statement}
 use Rattle.level.proofs.stretch.Tie as tie
 use Rattle.level.proofs.Stretches as laws
+
+-- Check 1 has passed.
+good : (c : tie.Else1) → badHours (c .before .before .args .n) ≡ false
+good c = sym (c .before .bad-hours .ensures) ∙ c .if1 .left
 
 bad-hours-requires : tie.Need-bad-hours-requires
 bad-hours-requires c κs = search needs
@@ -14,13 +20,13 @@ returns : tie.Need-returns
 returns c = laws.bad-hours _ _ _ (sym (c .before .bad-hours .ensures) ∙ c .if1 .taken)
 
 places-requires : tie.Need-places-requires
-places-requires c κs = good-some _ (sym (c .before .bad-hours .ensures) ∙ c .if1 .left) .1
+places-requires c κs = good-some _ (good c) .1
 
 returns-2 : tie.Need-returns-2
 returns-2 c =
     let c2 = c .before .before in
     let c3 = c2 .before in
-    laws.too-short _ _ _ (sym (c3 .bad-hours .ensures) ∙ c2 .if1 .left)
+    laws.too-short _ _ _ (good c2)
     (rw (c .before .places .ensures) at (c .if2 .taken))
 
 returns-3 : tie.Need-returns-3
@@ -29,7 +35,7 @@ returns-3 c =
     let c3 = c2 .before in
     let c4 = c3 .before in
     let room = rw (c2 .places .ensures) at (c .before .if2 .left) in
-    laws.too-deep _ _ _ (sym (c4 .bad-hours .ensures) ∙ c3 .if1 .left) room (c .if3 .taken)
+    laws.too-deep _ _ _ (good c3) room (c .if3 .taken)
 
 power-requires : tie.Need-power-requires
 power-requires c κs = search needs
@@ -44,7 +50,7 @@ returns-4 c =
     let c5 = c4 .before in
     let c6 = c5 .before in
     let p = c4 .places .ensures in
-    laws.too-wide _ _ _ (sym (c6 .bad-hours .ensures) ∙ c5 .if1 .left) (rw p at (c3 .if2 .left))
+    laws.too-wide _ _ _ (good c5) (rw p at (c3 .if2 .left))
     (rw (p, c .before .power .ensures) at (c .if4 .taken))
 
 mul-t9 : tie.Need-mul-t9
@@ -61,7 +67,7 @@ returns-5 c =
     let c6 = c5 .before in
     let p = c4 .places .ensures in
     rw (c .before .power .ensures)
-    (laws.there _ _ _ (sym (c6 .bad-hours .ensures) ∙ c5 .if1 .left) (rw p at (c3 .if2 .left))
+    (laws.there _ _ _ (good c5) (rw p at (c3 .if2 .left))
     (rw (p, c .before .power .ensures) at (c .if4 .left)))
 
 pub stretch-spec : {M : Type 1} → statement M

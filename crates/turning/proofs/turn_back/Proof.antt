@@ -1,17 +1,46 @@
 -- `turn_back` makes the checks in their order, each of which refuses with nothing written, and then writes the hours
 -- of a sound table into the first n places lent. Assumes nothing.
-use mathlib.Core.Path.{sym, _∙_}
+use mathlib.Core.Path.{_≡_, sym, _∙_}
+use mathlib.Core.Bool.{false}
 use Prim.Native.Nat.{_<_}
 use native.Mathlib.Omega.{arith}
-use lib.ListN.{length}
+use lib.IntN.{pos}
+use lib.ListN.{length, getD}
 use lib.Seq.{length-take-le}
 use borrow.Author.Needs.{needs}
 use Rattle.om3.proofs.Making.{good-some}
-use Rattle.om3.proofs.Levels.{2≤P}
-use Rattle.turning.proofs.AtRoot.{root-read, root-readings, root-hours}
+use Rattle.om3.proofs.Levels.{2≤P, P-even}
+use Rattle.om3.specs.Series.{badHours}
+use Rattle.node.specs.declared.Root.{Root}
+use Rattle.node.specs.Steps.{rootOf}
+use Rattle.turning.proofs.AtRoot.{root-read, root-readings}
 use Rattle.turning.proofs.TurningBack as laws
 use Rattle.turning.proofs.turn_back.Statement.{statement}
 use Rattle.turning.proofs.turn_back.Tie as tie
+
+-- Check 1 has passed.
+good : (c : tie.Else1) → badHours (c .before .before .before .args .n) ≡ false
+good c = sym (c .before .bad-hours .ensures) ∙ c .if1 .left
+
+-- Checks 1 and 3 have passed.
+fits : (c : tie.Else4) →
+    (let a = c .before .before .before .before .before .before .before .args in
+    laws.Enough (a .n) (a .coefficients .now) (a .codes .now) (a .hours .now))
+fits c =
+    let c3 = c .before .before .before in
+    laws.enough _ _ _ _ (good (c3 .before)) _ (c3 .places .ensures)
+    (c .before .before .if2 .left) (c .before .if3 .left) (c .if4 .left)
+
+-- What node 1's range is told to be, for the root values as they stand in the coefficients.
+root-told : (c : tie.After-root-range) {x : Root} → c .root-range .result ≡ x →
+    (let examined = c .before .before .before .before .before in
+    let cs = examined .before .before .before .before .before .before .before .before .args .coefficients .now in
+    rootOf (getD cs 0 (pos 0)) (getD cs 1 (pos 0)) ≡ x)
+root-told c g =
+    let examined = c .before .before .before .before .before in
+    let cs = examined .before .before .before .before .before .before .before .before .args .coefficients .now in
+    root-read cs (c .before .before .root-range-arg .given) (c .before .root-range-arg2 .given)
+    (c .root-range .ensures) g
 
 bad-hours-requires : tie.Need-bad-hours-requires
 bad-hours-requires c κs = search needs
@@ -20,39 +49,27 @@ returns : tie.Need-returns
 returns c = laws.bad-hours _ _ _ _ (sym (c .before .bad-hours .ensures) ∙ c .if1 .taken)
 
 places-requires : tie.Need-places-requires
-places-requires c κs = good-some _ (sym (c .before .bad-hours .ensures) ∙ c .if1 .left) .1
+places-requires c κs = good-some _ (good c) .1
 
 returns-2 : tie.Need-returns-2
 returns-2 c =
-    let c2 = c .before .before in
-    laws.few-coefficients _ _ _ _ (sym (c2 .before .bad-hours .ensures) ∙ c2 .if1 .left) _
-    (c .before .places .ensures) (c .if2 .taken)
+    laws.few-coefficients _ _ _ _ (good (c .before .before)) _ (c .before .places .ensures) (c .if2 .taken)
 
 returns-3 : tie.Need-returns-3
 returns-3 c =
     let c2 = c .before .before in
-    let c3 = c2 .before in
-    laws.few-codes _ _ _ _ (sym (c3 .before .bad-hours .ensures) ∙ c3 .if1 .left) _
-    (c2 .places .ensures) (c .before .if2 .left)
-    (c .if3 .taken)
+    laws.few-codes _ _ _ _ (good (c2 .before)) _ (c2 .places .ensures) (c .before .if2 .left) (c .if3 .taken)
 
 returns-4 : tie.Need-returns-4
 returns-4 c =
     let c3 = c .before .before .before in
-    let c4 = c3 .before in
-    laws.few-hours _ _ _ _ (sym (c4 .before .bad-hours .ensures) ∙ c4 .if1 .left) _ (c3 .places .ensures)
+    laws.few-hours _ _ _ _ (good (c3 .before)) _ (c3 .places .ensures)
     (c .before .before .if2 .left) (c .before .if3 .left) (c .if4 .taken)
 
 examine-requires : tie.Need-examine-requires
 examine-requires c κs =
-    let c3 = c .before .before .before in
-    let c4 = c3 .before in
-    let p = c3 .places .ensures in
-    record {
-      most = good-some _ (sym (c4 .before .bad-hours .ensures) ∙ c4 .if1 .left) .1;
-      coefficients = rw p at (c .before .before .if2 .left);
-      codes = rw p at (c .before .if3 .left);
-    }
+    let f = fits c in
+    record { most = good-some _ (f .good) .1; coefficients = f .coefficients; codes = f .codes }
 
 enum-known-i : tie.Need-enum-known-i
 enum-known-i c = search needs
@@ -60,14 +77,7 @@ enum-known-i c = search needs
 returns-5 : tie.Need-returns-5
 returns-5 c =
     let c3 = c .before .before .before in
-    let c4 = c3 .before in
-    let c7 = c4 .before .before .before in
-    let c8 = c7 .before in
-    let fits =
-    laws.enough _ _ _ _ (sym (c8 .before .bad-hours .ensures) ∙ c8 .if1 .left) _ (c7 .places .ensures)
-    (c4 .before .before .if2 .left) (c4 .before .if3 .left) (c4 .if4 .left)
-    in
-    laws.unsound-refused _ _ _ _ fits _ (c3 .examine .ensures) _ (c .before .i .given .1)
+    laws.unsound-refused _ _ _ _ (fits (c3 .before)) _ (c3 .examine .ensures) _ (c .before .i .given .1)
 
 enum-told : tie.Need-enum-told
 enum-told c = search needs
@@ -107,17 +117,15 @@ slice-aggregate-write-below c =
 write-below-requires : tie.Need-write-below-requires
 write-below-requires c κs =
     let c4 = c .before .before .before .before in
-    let c12 = c4 .before .before .before .before .before .before .before .before in
-    let c13 = c12 .before in
-    let a = c13 .before .before .before .before .args in
-    let x = c4 .before .before .root-range-arg .given in
-    let y = c4 .before .root-range-arg2 .given in
-    let r = root-read (a .coefficients .now) x y (c4 .root-range .ensures) (c .before .before .range .given .1) in
-    let e = c13 .places .ensures in
+    let c9 = c4 .before .before .before .before .before in
+    let a = c9 .before .before .before .before .before .before .before .before .args in
+    let r = root-told c4 (c .before .before .range .given .1) in
+    let e = c9 .before .before .before .before .places .ensures in
+    let f = fits (c9 .before) in
     let z = 2≤P (a .n) in
-    let w = c12 .if2 .left in
-    let k = c4 .before .before .before .before .before .before .before .if3 .left in
-    let h = root-hours (a .n) (a .codes .now) _ e k in
+    let h = P-even (a .n) in
+    let w = f .coefficients in
+    let k = f .codes in
     (omega arith, (root-readings (a .coefficients .now) r, (omega arith, omega arith)))
 
 enum-told-2 : tie.Need-enum-told-2
@@ -131,39 +139,19 @@ returns-6 c =
     let c6 = c .before .before .before .before .before .before in
     let c9 = c6 .before .before .before in
     let c11 = c9 .before .before in
-    let c12 = c11 .before in
-    let c15 = c12 .before .before .before in
-    let c16 = c15 .before in
-    let fits =
-    laws.enough _ _ _ _ (sym (c16 .before .bad-hours .ensures) ∙ c16 .if1 .left) _ (c15 .places .ensures)
-    (c12 .before .before .if2 .left) (c12 .before .if3 .left) (c12 .if4 .left)
-    in
-    let a = c16 .before .before .before .args in
-    let x = c6 .before .before .root-range-arg .given in
-    let y = c6 .before .root-range-arg2 .given in
-    let g = c .before .before .before .before .range .given .1 in
-    let r = root-read (a .coefficients .now) x y (c6 .root-range .ensures) g in
-    laws.hours-written _ _ _ _ fits _ (c11 .examine .ensures) (c9 .enum-told .given .1) _ r _ (c15 .places .ensures) _
-    (c .before .write-below .ensures)
+    let c15 = c11 .before .before .before .before in
+    let r = root-told c6 (c .before .before .before .before .range .given .1) in
+    laws.hours-written _ _ _ _ (fits (c11 .before)) _ (c11 .examine .ensures) (c9 .enum-told .given .1) _ r _
+    (c15 .places .ensures) _ (c .before .write-below .ensures)
 
 returns-7 : tie.Need-returns-7
 returns-7 c =
     let c2 = c .before .before in
     let c5 = c2 .before .before .before in
     let c7 = c5 .before .before in
-    let c8 = c7 .before in
-    let c11 = c8 .before .before .before in
-    let c12 = c11 .before in
-    let a = c12 .before .before .before .args in
-    let fits =
-    laws.enough (a .n) (a .coefficients .now) (a .codes .now) (a .hours .now)
-    (sym (c12 .before .bad-hours .ensures) ∙ c12 .if1 .left) _ (c11 .places .ensures)
-    (c8 .before .before .if2 .left) (c8 .before .if3 .left) (c8 .if4 .left)
-    in
-    let x = c2 .before .before .root-range-arg .given in
-    let y = c2 .before .root-range-arg2 .given in
-    let r = root-read (a .coefficients .now) x y (c2 .root-range .ensures) (c .enum-told2 .given .1) in
-    absurd (laws.root-not-unsound _ _ _ _ fits _ (c7 .examine .ensures) (c5 .enum-told .given .1) r)
+    let r = root-told c2 (c .enum-told2 .given .1) in
+    absurd
+    (laws.root-not-unsound _ _ _ _ (fits (c7 .before)) _ (c7 .examine .ensures) (c5 .enum-told .given .1) r)
 
 pub turn-back-spec : {M : Type 1} → statement M
 turn-back-spec =
