@@ -3,7 +3,11 @@
 //! The signatures, buffers, checks and refusals are those of the proved store. Nothing is allocated, each call goes
 //! down the nodes by calling itself on both halves, and nothing is tuned.
 
+mod record;
+
 use std::fmt;
+
+pub use record::{read_record, write_record};
 
 /// A series has at most this many hours.
 pub const MOST_HOURS: usize = 16_384;
@@ -32,6 +36,10 @@ pub struct Refusal {
 impl Refusal {
     const SERIES: Refusal = Refusal { number: 1, place: 0 };
     const SHORT_BUFFER: Refusal = Refusal { number: 3, place: 0 };
+    const CUT_SHORT: Refusal = Refusal { number: 8, place: 0 };
+    const VERSION: Refusal = Refusal { number: 9, place: 0 };
+    const LENGTH_FIELD: Refusal = Refusal { number: 10, place: 0 };
+    const BYTES_AFTER: Refusal = Refusal { number: 11, place: 0 };
 
     const fn hour(hour: usize) -> Refusal {
         Refusal { number: 2, place: hour }
@@ -169,23 +177,40 @@ pub fn turn_back(n: usize, coefficients: &[i32], codes: &[u8], hours: &mut [i32]
         return Err(Refusal::SHORT_BUFFER);
     }
     let table = Table { n, coefficients: &coefficients[..p], codes: &codes[..p / 2] };
-    let root = table.root()?;
-    table.examine_below(Node::root(p), root)?;
+    let root = table.examine()?;
     table.write_below(Node::root(p), root, &mut hours[..n]);
     Ok(())
 }
 
-/// A lent table of P coefficients and P/2 codes.
-struct Table<'a> {
+/// A lent table of P coefficients, wherever they stand, and P/2 codes.
+struct Table<'a, C> {
     n: usize,
-    coefficients: &'a [i32],
+    coefficients: C,
     codes: &'a [u8],
 }
 
-impl Table<'_> {
+/// Coefficients by their places.
+trait Coefficients {
+    fn at(&self, place: usize) -> i32;
+}
+
+impl Coefficients for &[i32] {
+    fn at(&self, place: usize) -> i32 {
+        self[place]
+    }
+}
+
+impl<C: Coefficients> Table<'_, C> {
+    /// Examines the whole table and gives the value of node 1.
+    fn examine(&self) -> Result<Value, Refusal> {
+        let root = self.root()?;
+        self.examine_below(Node::root(2 * self.codes.len()), root)?;
+        Ok(root)
+    }
+
     /// The value of node 1, or refusal 4 at 0 if the root values are unsound.
     fn root(&self) -> Result<Value, Refusal> {
-        let (low, high) = (self.coefficients[0], self.coefficients[1]);
+        let (low, high) = (self.coefficients.at(0), self.coefficients.at(1));
         if low == NEITHER && high == NEITHER {
             Ok(None)
         } else if is_reading(low) && is_reading(high) && low <= high {
@@ -242,7 +267,8 @@ impl Table<'_> {
 
     /// The values of both halves of a node that is not a pair, `None` if it is unsound.
     fn go_down(&self, node: Node, value: Value) -> Option<(Value, Value)> {
-        let details = (self.coefficients[2 * node.number], self.coefficients[2 * node.number + 1]);
+        let place = 2 * node.number;
+        let details = (self.coefficients.at(place), self.coefficients.at(place + 1));
         let Some(LowHigh { low, high }) = value else {
             return (details == (NEITHER, NEITHER)).then_some((None, None));
         };

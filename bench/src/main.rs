@@ -1,4 +1,5 @@
-//! Measures making and turning back: nanoseconds a reading for the proved store and for plain Rust, side by side.
+//! Measures making, turning back, writing a record and reading it: nanoseconds a reading for the proved store and for
+//! plain Rust, side by side, and for records also megabytes a second.
 //!
 //! Before anything is timed, both have to give what the second program gives. Times are printed and never judged.
 
@@ -10,6 +11,8 @@ use second::random::Random;
 
 /// The hours of the season measured.
 const N: usize = MOST_HOURS;
+/// The bytes of its record.
+const RECORD: usize = 7 + 3 * N + N / 2;
 /// So many of a hundred hours are gaps.
 const GAPS_IN_A_HUNDRED: u64 = 3;
 /// How long is measured, all calls together.
@@ -38,15 +41,26 @@ fn season() -> Vec<i32> {
 }
 
 /// The buffers that one side writes. They are made once and then written again by each call.
+#[derive(PartialEq, Eq)]
 struct Buffers {
     coefficients: Vec<i32>,
     codes: Vec<u8>,
     hours: Vec<i32>,
+    record: Vec<u8>,
+    read_coefficients: Vec<i32>,
+    read_codes: Vec<u8>,
 }
 
 impl Buffers {
     fn new() -> Buffers {
-        Buffers { coefficients: vec![0; N], codes: vec![0; N / 2], hours: vec![0; N] }
+        Buffers {
+            coefficients: vec![0; N],
+            codes: vec![0; N / 2],
+            hours: vec![0; N],
+            record: vec![0; RECORD],
+            read_coefficients: vec![0; N],
+            read_codes: vec![0; N / 2],
+        }
     }
 }
 
@@ -54,6 +68,8 @@ impl Buffers {
 trait Side {
     fn make(readings: &[i32], buffers: &mut Buffers) -> bool;
     fn turn_back(buffers: &mut Buffers) -> bool;
+    fn write_record(buffers: &mut Buffers) -> bool;
+    fn read_record(buffers: &mut Buffers) -> bool;
 }
 
 /// The proved store.
@@ -64,9 +80,25 @@ impl Side for Proved {
         sagivelume::make(black_box(N), black_box(readings), black_box(coefficients), black_box(codes)).is_ok()
     }
 
-    fn turn_back(Buffers { coefficients, codes, hours }: &mut Buffers) -> bool {
+    fn turn_back(Buffers { coefficients, codes, hours, .. }: &mut Buffers) -> bool {
         sagivelume::turn_back(black_box(N), black_box(coefficients), black_box(codes), black_box(hours))
             .is_ok()
+    }
+
+    fn write_record(Buffers { coefficients, codes, record, .. }: &mut Buffers) -> bool {
+        let written = sagivelume::write_record(
+            black_box(N),
+            black_box(coefficients),
+            black_box(codes),
+            black_box(record),
+        );
+        written == Ok(RECORD)
+    }
+
+    fn read_record(Buffers { record, read_coefficients, read_codes, .. }: &mut Buffers) -> bool {
+        let read =
+            sagivelume::read_record(black_box(record), black_box(read_coefficients), black_box(read_codes));
+        read == Ok(N)
     }
 }
 
@@ -78,22 +110,41 @@ impl Side for Plain {
         plain::make(black_box(N), black_box(readings), black_box(coefficients), black_box(codes)).is_ok()
     }
 
-    fn turn_back(Buffers { coefficients, codes, hours }: &mut Buffers) -> bool {
+    fn turn_back(Buffers { coefficients, codes, hours, .. }: &mut Buffers) -> bool {
         plain::turn_back(black_box(N), black_box(coefficients), black_box(codes), black_box(hours)).is_ok()
+    }
+
+    fn write_record(Buffers { coefficients, codes, record, .. }: &mut Buffers) -> bool {
+        let written =
+            plain::write_record(black_box(N), black_box(coefficients), black_box(codes), black_box(record));
+        written == Ok(RECORD)
+    }
+
+    fn read_record(Buffers { record, read_coefficients, read_codes, .. }: &mut Buffers) -> bool {
+        let read = plain::read_record(black_box(record), black_box(read_coefficients), black_box(read_codes));
+        read == Ok(N)
     }
 }
 
-/// Fails unless one side makes and turns back what the second program does.
-fn hold_against_second<S: Side>(readings: &[i32], buffers: &mut Buffers) {
-    let mut expected = Buffers::new();
-    second::make(N as u64, readings, &mut expected.coefficients, &mut expected.codes).expect("taken");
-    second::turn_back(N as u64, &expected.coefficients, &expected.codes, &mut expected.hours).expect("taken");
-    assert_eq!(expected.hours, readings);
+/// What the second program gives.
+fn by_second(readings: &[i32]) -> Buffers {
+    let n = N as u64;
+    let mut given = Buffers::new();
+    second::make(n, readings, &mut given.coefficients, &mut given.codes).expect("taken");
+    second::turn_back(n, &given.coefficients, &given.codes, &mut given.hours).expect("taken");
+    let written = second::write_record(n, &given.coefficients, &given.codes, &mut given.record);
+    assert_eq!(written, Ok(RECORD as u64));
+    let read = second::read_record(&given.record, &mut given.read_coefficients, &mut given.read_codes);
+    assert_eq!(read, Ok(n));
+    assert_eq!(given.hours, readings);
+    given
+}
 
+/// Fails unless one side makes, turns back, writes and reads what the second program does.
+fn hold_against_second<S: Side>(readings: &[i32], buffers: &mut Buffers) {
     assert!(S::make(readings, buffers) && S::turn_back(buffers));
-    assert_eq!(buffers.coefficients, expected.coefficients);
-    assert_eq!(buffers.codes, expected.codes);
-    assert_eq!(buffers.hours, expected.hours);
+    assert!(S::write_record(buffers) && S::read_record(buffers));
+    assert!(*buffers == by_second(readings), "not what the second program gives");
 }
 
 /// The times of one call on one side.
@@ -108,13 +159,22 @@ impl Times {
         assert!(taken);
     }
 
-    /// Least and median, in nanoseconds a reading.
-    fn least_and_median(&self) -> (f64, f64) {
+    /// Least and median, in nanoseconds.
+    fn least_and_median(&self) -> [f64; 2] {
         let mut times = self.0[WARMING_UP..].to_vec();
         times.sort_unstable();
-        let per_reading = |time: Duration| time.as_nanos() as f64 / N as f64;
-        (per_reading(times[0]), per_reading(times[times.len() / 2]))
+        [times[0], times[times.len() / 2]].map(|time| time.as_nanos() as f64)
     }
+}
+
+/// Nanoseconds a reading of a call that takes so many nanoseconds.
+fn a_reading(nanoseconds: f64) -> f64 {
+    nanoseconds / N as f64
+}
+
+/// Megabytes of the record a second, a megabyte being a million bytes.
+fn megabytes_a_second(nanoseconds: f64) -> f64 {
+    1_000.0 * RECORD as f64 / nanoseconds
 }
 
 /// One side with its buffers and its times.
@@ -122,24 +182,30 @@ impl Times {
 struct Measured {
     make: Times,
     turn_back: Times,
+    write_record: Times,
+    read_record: Times,
 }
 
 impl Measured {
     fn round<S: Side>(&mut self, readings: &[i32], buffers: &mut Buffers) {
         self.make.take(|| S::make(readings, buffers));
         self.turn_back.take(|| S::turn_back(buffers));
+        self.write_record.take(|| S::write_record(buffers));
+        self.read_record.take(|| S::read_record(buffers));
     }
 }
 
-/// A row of the table.
-fn row(call: &str, proved: &Times, plain: &Times) -> String {
-    let (proved_least, proved_median) = proved.least_and_median();
-    let (plain_least, plain_median) = plain.least_and_median();
-    let ratios = (proved_least / plain_least, proved_median / plain_median);
-    format!(
-        "| {call} | {proved_least:.2} | {plain_least:.2} | {:.2} | {proved_median:.2} | {plain_median:.2} | {:.2} |",
-        ratios.0, ratios.1
-    )
+const HEAD: &str = "| call | proved, least | plain, least | ratio | proved, median | plain, median | ratio |";
+const LINE: &str = "|---|---|---|---|---|---|---|";
+
+/// A row of a table: the times of a call in some unit.
+fn row(call: &str, proved: &Times, plain: &Times, unit: fn(f64) -> f64) -> String {
+    let (proved, plain) = (proved.least_and_median().map(unit), plain.least_and_median().map(unit));
+    let fields = [0, 1].map(|time| {
+        let (proved, plain) = (proved[time], plain[time]);
+        format!("{proved:.2} | {plain:.2} | {:.2}", proved / plain)
+    });
+    format!("| {call} | {} |", fields.join(" | "))
 }
 
 fn main() {
@@ -168,8 +234,16 @@ fn main() {
     println!("the two sides interleaved; buffers not cleared; ratio is proved / plain.");
     println!("Before timing, both gave what the second program gives.");
     println!();
-    println!("| call | proved, least | plain, least | ratio | proved, median | plain, median | ratio |");
-    println!("|---|---|---|---|---|---|---|");
-    println!("{}", row("make", &proved.make, &plain.make));
-    println!("{}", row("turn back", &proved.turn_back, &plain.turn_back));
+    println!("{HEAD}\n{LINE}");
+    println!("{}", row("make", &proved.make, &plain.make, a_reading));
+    println!("{}", row("turn back", &proved.turn_back, &plain.turn_back, a_reading));
+    println!("{}", row("write record", &proved.write_record, &plain.write_record, a_reading));
+    println!("{}", row("read record", &proved.read_record, &plain.read_record, a_reading));
+    println!();
+    println!("The same times of records in megabytes a second, {RECORD} bytes each; least and median are those of the");
+    println!("time, and a ratio over 1 is the proved store's gain.");
+    println!();
+    println!("{HEAD}\n{LINE}");
+    println!("{}", row("write record", &proved.write_record, &plain.write_record, megabytes_a_second));
+    println!("{}", row("read record", &proved.read_record, &plain.read_record, megabytes_a_second));
 }

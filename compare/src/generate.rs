@@ -18,6 +18,9 @@ pub const EDGES_OF_N: [usize; 27] = [
     MOST - 1, MOST, MOST + 1, 2 * MOST, (1 << 16) + 3, (1 << 32) + 3, usize::MAX,
 ];
 
+/// Every P, which is also the most hours that it serves.
+pub const EVERY_P: [usize; 14] = [2, 4, 8, 16, 32, 64, 128, 256, 512, 1_024, 2_048, 4_096, 8_192, MOST];
+
 /// Numbers that no hour may hold.
 #[rustfmt::skip]
 pub const NO_READINGS: &[i32] = &[
@@ -57,6 +60,11 @@ impl Room {
         } else {
             Room::of(n)
         }
+    }
+
+    /// Bytes of the whole record.
+    pub fn record(self) -> usize {
+        7 + 3 * self.coefficients + self.codes
     }
 
     fn of_series(n: usize) -> Option<Room> {

@@ -29,6 +29,11 @@ impl Head {
     pub fn of(taken: Result<(), Refusal>) -> Head {
         taken.map_or_else(Head::Refused, |()| Head::Taken(vec![]))
     }
+
+    /// Taken with these fields, or refused.
+    pub fn answering<T: fmt::Display, const FIELDS: usize>(taken: Result<[T; FIELDS], Refusal>) -> Head {
+        taken.map_or_else(Head::Refused, |fields| Head::Taken(fields.iter().map(T::to_string).collect()))
+    }
 }
 
 impl fmt::Display for Head {

@@ -13,10 +13,11 @@ mod generate;
 mod given;
 mod lent;
 mod line;
+mod records;
 
 use std::process::ExitCode;
 
-use calls::{compare, Difference, Level, Make, Tally, TurnBack};
+use calls::{compare, Ask, AskView, Difference, Level, Make, Open, ReadRecord, Tally, TurnBack, WriteRecord};
 
 const USAGE: &str = "usage: compare [--seed N] [--calls N]";
 
@@ -51,6 +52,11 @@ impl Run {
             compare::<Make>(self.seed, self.calls)?,
             compare::<TurnBack>(self.seed, self.calls)?,
             compare::<Level>(self.seed, self.calls)?,
+            compare::<WriteRecord>(self.seed, self.calls)?,
+            compare::<ReadRecord>(self.seed, self.calls)?,
+            compare::<Open>(self.seed, self.calls)?,
+            compare::<Ask>(self.seed, self.calls)?,
+            compare::<AskView>(self.seed, self.calls)?,
         ])
     }
 }

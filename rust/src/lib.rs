@@ -15,13 +15,20 @@
 //! let mut hours = [0; 7];
 //! sagivelume::turn_back(7, &coefficients, &codes, &mut hours)?;
 //! assert_eq!(hours, readings);
+//!
+//! // Its house record: 7 bytes, then three for each coefficient, then the codes.
+//! let mut record = [0; 35];
+//! assert_eq!(sagivelume::write_record(7, &coefficients, &codes, &mut record)?, 35);
+//! assert_eq!(sagivelume::open_record(&record)?.coefficient(1)?, 41_350);
 //! # Ok::<(), sagivelume::Refusal>(())
 //! ```
 
 #[allow(unsafe_code)]
 mod linked;
+mod record;
 mod refusal;
 mod table;
 
+pub use record::{ask, open_record, read_record, write_record, Record};
 pub use refusal::Refusal;
 pub use table::{level, make, turn_back, GAP};

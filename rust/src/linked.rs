@@ -25,6 +25,71 @@ impl Told {
     }
 }
 
+/// How writing a record ended, with the number of its bytes.
+#[repr(C)]
+pub struct ToldBytes {
+    number: usize,
+    place: usize,
+    bytes: usize,
+}
+
+impl ToldBytes {
+    /// The number of bytes, or the refusal.
+    pub fn taken(self) -> Result<usize, Refusal> {
+        let ToldBytes { number, place, bytes } = self;
+        Told { number, place }.taken().map(|()| bytes)
+    }
+}
+
+/// How reading a record ended, with the hours of its series.
+#[repr(C)]
+pub struct ToldHours {
+    number: usize,
+    place: usize,
+    hours: usize,
+}
+
+impl ToldHours {
+    /// The hours, or the refusal.
+    pub fn taken(self) -> Result<usize, Refusal> {
+        let ToldHours { number, place, hours } = self;
+        Told { number, place }.taken().map(|()| hours)
+    }
+}
+
+/// How opening a record ended, with the hours of its series and the places of its coefficients.
+#[repr(C)]
+pub struct ToldRecord {
+    number: usize,
+    place: usize,
+    hours: usize,
+    places: usize,
+}
+
+impl ToldRecord {
+    /// Hours and places, or the refusal.
+    pub fn taken(self) -> Result<(usize, usize), Refusal> {
+        let ToldRecord { number, place, hours, places } = self;
+        Told { number, place }.taken().map(|()| (hours, places))
+    }
+}
+
+/// How asking for a coefficient ended, with the coefficient.
+#[repr(C)]
+pub struct ToldCoefficient {
+    number: usize,
+    place: usize,
+    coefficient: i32,
+}
+
+impl ToldCoefficient {
+    /// The coefficient, or the refusal.
+    pub fn taken(self) -> Result<i32, Refusal> {
+        let ToldCoefficient { number, place, coefficient } = self;
+        Told { number, place }.taken().map(|()| coefficient)
+    }
+}
+
 /// A part of a lent slice.
 #[repr(C)]
 pub struct Places {
@@ -61,6 +126,29 @@ extern "C" {
     ) -> Told;
 
     fn sagivelume_level(n: usize, j: usize, coefficients: *const i32, coefficients_length: usize) -> Places;
+
+    fn sagivelume_write_record(
+        n: usize,
+        coefficients: *const i32,
+        coefficients_length: usize,
+        codes: *const u8,
+        codes_length: usize,
+        bytes: *mut u8,
+        bytes_length: usize,
+    ) -> ToldBytes;
+
+    fn sagivelume_read_record(
+        bytes: *const u8,
+        bytes_length: usize,
+        coefficients: *mut i32,
+        coefficients_length: usize,
+        codes: *mut u8,
+        codes_length: usize,
+    ) -> ToldHours;
+
+    fn sagivelume_open_record(bytes: *const u8, bytes_length: usize) -> ToldRecord;
+
+    fn sagivelume_ask(bytes: *const u8, bytes_length: usize, places: usize, place: usize) -> ToldCoefficient;
 }
 
 /// Makes a table.
@@ -104,4 +192,53 @@ pub fn level(n: usize, j: usize, coefficients: &[i32]) -> Places {
     // SAFETY: the pointer comes with the length of its own live slice, which the store only reads, if at all, and of
     // which it keeps no pointer.
     unsafe { sagivelume_level(n, j, coefficients.as_ptr(), coefficients.len()) }
+}
+
+/// Writes a record.
+pub fn write_record(n: usize, coefficients: &[i32], codes: &[u8], bytes: &mut [u8]) -> ToldBytes {
+    // SAFETY: each pointer comes with the length of its own live slice, the slice written is lent to this call
+    // alone, and the store touches nothing outside them and keeps no pointer: Rattle's references reach no further and
+    // end with the call, and its compiler is trusted for it.
+    unsafe {
+        sagivelume_write_record(
+            n,
+            coefficients.as_ptr(),
+            coefficients.len(),
+            codes.as_ptr(),
+            codes.len(),
+            bytes.as_mut_ptr(),
+            bytes.len(),
+        )
+    }
+}
+
+/// Reads a record.
+pub fn read_record(bytes: &[u8], coefficients: &mut [i32], codes: &mut [u8]) -> ToldHours {
+    // SAFETY: each pointer comes with the length of its own live slice, the slices written are lent to this call
+    // alone, and the store touches nothing outside them and keeps no pointer: Rattle's references reach no further and
+    // end with the call, and its compiler is trusted for it.
+    unsafe {
+        sagivelume_read_record(
+            bytes.as_ptr(),
+            bytes.len(),
+            coefficients.as_mut_ptr(),
+            coefficients.len(),
+            codes.as_mut_ptr(),
+            codes.len(),
+        )
+    }
+}
+
+/// Opens a record.
+pub fn open_record(bytes: &[u8]) -> ToldRecord {
+    // SAFETY: the pointer comes with the length of its own live slice, which the store only reads, if at all, and of
+    // which it keeps no pointer.
+    unsafe { sagivelume_open_record(bytes.as_ptr(), bytes.len()) }
+}
+
+/// Asks a record of so many places for one coefficient.
+pub fn ask(bytes: &[u8], places: usize, place: usize) -> ToldCoefficient {
+    // SAFETY: the pointer comes with the length of its own live slice, which the store only reads, if at all, and of
+    // which it keeps no pointer.
+    unsafe { sagivelume_ask(bytes.as_ptr(), bytes.len(), places, place) }
 }

@@ -6,7 +6,7 @@ use std::process::ExitCode;
 
 use second::answer::answer;
 use second::printer::{print, EXAMPLE};
-use second::vectors::written;
+use second::vectors::{written, Written};
 
 const USAGE: &str = "usage: second print | second answer | second example | second vectors DIR";
 
@@ -16,7 +16,7 @@ fn main() -> ExitCode {
         ["print"] => run_print(),
         ["answer"] => run_answer(),
         ["example"] => run_example(),
-        ["vectors", folder] => run_vectors(Path::new(folder)),
+        ["vectors", crates] => run_vectors(Path::new(crates)),
         _ => {
             eprintln!("{USAGE}");
             return ExitCode::from(2);
@@ -61,14 +61,17 @@ fn run_example() -> io::Result<()> {
     output.write_all(&print(EXAMPLE.as_bytes()))
 }
 
-/// The vectors of making and turning back as `stdin` and `stdout` of a folder; how many calls had each outcome goes to
-/// standard error.
-fn run_vectors(folder: &Path) -> io::Result<()> {
-    let (input, output, outcomes) = written();
-    std::fs::write(folder.join("stdin"), input)?;
-    std::fs::write(folder.join("stdout"), output)?;
-    for (outcome, count) in outcomes {
-        eprintln!("{outcome}: {count}");
+/// The vectors of each program as `stdin` and `stdout` of the folder of its name; how many calls had each outcome goes
+/// to standard error.
+fn run_vectors(crates: &Path) -> io::Result<()> {
+    for Written { program, input, output, outcomes } in written() {
+        let folder = crates.join(program);
+        std::fs::create_dir_all(&folder)?;
+        std::fs::write(folder.join("stdin"), input)?;
+        std::fs::write(folder.join("stdout"), output)?;
+        for (outcome, count) in outcomes {
+            eprintln!("{program}: {outcome}: {count}");
+        }
     }
     Ok(())
 }

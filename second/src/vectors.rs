@@ -1,92 +1,73 @@
-//! The vectors of making and turning back: calls with chosen contents and this program's answers to them, in plain
-//! numbers that a small program can read. `crates/vectors` runs them.
+//! The vectors: calls with chosen contents and this program's answers to them, in plain numbers that a small program
+//! can read. `crates/vectors` runs those of tables and `crates/record_vectors` those of records.
 //!
-//! A call is the number of what is called, n, and its buffers, each its length and then its content: `1 n readings
-//! coefficients codes` is making, `2 n coefficients codes hours` is turning back. The answer is the number of the
-//! refusal, 0 if the call is taken, its place, and the whole content of each buffer that the call writes. Each call,
-//! each answer and each buffer begins a line; a line has at most eight numbers, one space apart.
+//! A call is the number of what is called, the numbers it takes, and its buffers, each its length and then its content.
+//! The answer is the number of the refusal, 0 if the call is taken, its place, the fields of the answer, each 0 on a
+//! refusal, and the whole content of each buffer that the call writes. Each call, each answer and each buffer begins a
+//! line; a line has at most eight numbers, one space apart. No number has more than thirteen digits.
 
 use std::collections::BTreeMap;
 
-use crate::hours::{Shape, GAP, GREATEST_READING};
-use crate::random::Random;
 use crate::refusal::Refusal;
-use crate::sound::turn_back;
-use crate::table::{make, NEITHER, ONLY_LEFT, ONLY_RIGHT};
 
-const SEED: u64 = 11;
+pub mod records;
+pub mod tables;
 
-/// The lengths of which every kind of call is tried: odd ones, and P − 1, P and P + 1 hours.
-const LENGTHS: [usize; 13] = [1, 2, 3, 5, 7, 8, 9, 15, 16, 17, 63, 64, 65];
+/// The greatest number that the programs read.
+pub const GREATEST_NUMBER: u64 = 9_999_999_999_999;
 
-/// Numbers that are neither a reading nor a gap.
-const NO_READINGS: [i32; 8] =
-    [1_000_001, -1_000_001, ONLY_LEFT, ONLY_RIGHT, 2_000_004, -2_000_003, i32::MAX, -i32::MAX];
+/// A call with what its buffers hold before.
+pub trait Vector {
+    /// The call as lines.
+    fn lines(&self) -> String;
 
-/// The printer's seven hours.
-const SEVEN_HOURS: [i32; 7] = [41200, 41350, GAP, 40900, 32760, 32790, GAP];
-
-/// A call, with what its buffers hold before.
-#[derive(Clone, Debug)]
-pub enum Call {
-    /// Making a table.
-    Make {
-        /// The hours of the series.
-        n: u64,
-        /// Only read.
-        readings: Vec<i32>,
-        /// Written.
-        coefficients: Vec<i32>,
-        /// Written.
-        codes: Vec<u8>,
-    },
-    /// Turning a table back.
-    TurnBack {
-        /// The hours of the series.
-        n: u64,
-        /// Only read.
-        coefficients: Vec<i32>,
-        /// Only read.
-        codes: Vec<u8>,
-        /// Written.
-        hours: Vec<i32>,
-    },
+    /// The name of the call and its outcome, and the answer as lines.
+    fn answer(self) -> (String, String);
 }
 
-impl Call {
-    /// The call as lines.
-    pub fn lines(&self) -> String {
-        match self {
-            Call::Make { n, readings, coefficients, codes } => {
-                lines(&[vec![1, *n as i64], lent(readings), lent(coefficients), lent(codes)])
-            }
-            Call::TurnBack { n, coefficients, codes, hours } => {
-                lines(&[vec![2, *n as i64], lent(coefficients), lent(codes), lent(hours)])
-            }
-        }
-    }
+/// What a program is run on and what it must write.
+pub struct Written {
+    /// The crate of the program.
+    pub program: &'static str,
+    /// The calls as text.
+    pub input: String,
+    /// The answers to them as text.
+    pub output: String,
+    /// How many calls had each outcome.
+    pub outcomes: BTreeMap<String, usize>,
+}
 
-    /// What happens to the call, and the answer as lines.
-    pub fn answer(mut self) -> (Result<(), Refusal>, String) {
-        let answered = match &mut self {
-            Call::Make { n, readings, coefficients, codes } => make(*n, readings, coefficients, codes),
-            Call::TurnBack { n, coefficients, codes, hours } => turn_back(*n, coefficients, codes, hours),
-        };
-        let (number, place) = answered.map_or_else(|refusal| (refusal.number, refusal.place), |()| (0, 0));
-        let head = vec![i64::from(number), place as i64];
-        let written = match &self {
-            Call::Make { coefficients, codes, .. } => lines(&[head, content(coefficients), content(codes)]),
-            Call::TurnBack { hours, .. } => lines(&[head, content(hours)]),
-        };
-        (answered, written)
-    }
-
-    /// The name of the call.
-    fn name(&self) -> &'static str {
-        match self {
-            Call::Make { .. } => "make",
-            Call::TurnBack { .. } => "turn_back",
+impl Written {
+    fn of(program: &'static str, calls: Vec<impl Vector>) -> Written {
+        let (mut input, mut output, mut outcomes) = (String::new(), String::new(), BTreeMap::new());
+        for call in calls {
+            input += &call.lines();
+            let (outcome, answer) = call.answer();
+            output += &answer;
+            *outcomes.entry(outcome).or_insert(0) += 1;
         }
+        Written { program, input, output, outcomes }
+    }
+}
+
+/// The vectors of each program.
+pub fn written() -> [Written; 2] {
+    [Written::of("vectors", tables::calls()), Written::of("record_vectors", records::calls())]
+}
+
+/// The numbers with which an answer begins: number and place of the refusal, and so many fields.
+fn head(answered: &Result<Vec<i64>, Refusal>, fields: usize) -> Vec<i64> {
+    match answered {
+        Ok(told) => [vec![0, 0], told.clone()].concat(),
+        Err(refusal) => [vec![i64::from(refusal.number), refusal.place as i64], vec![0; fields]].concat(),
+    }
+}
+
+/// A call's name and what happened to it.
+fn outcome<T>(name: &str, answered: &Result<T, Refusal>) -> String {
+    match answered {
+        Ok(_) => format!("{name} taken"),
+        Err(refusal) => format!("{name} refused {}", refusal.number),
     }
 }
 
@@ -106,220 +87,12 @@ fn lines(parts: &[Vec<i64>]) -> String {
     parts.iter().flat_map(|part| part.chunks(8)).map(numbers).collect()
 }
 
-/// The calls as text, the answers to them as text, and how many calls had each outcome.
-pub fn written() -> (String, String, BTreeMap<String, usize>) {
-    let (mut input, mut output, mut outcomes) = (String::new(), String::new(), BTreeMap::new());
-    for call in calls() {
-        let name = call.name();
-        input += &call.lines();
-        let (answered, answer) = call.answer();
-        output += &answer;
-        let outcome = answered.map_or_else(|refusal| format!("refused {}", refusal.number), |()| String::from("taken"));
-        *outcomes.entry(format!("{name} {outcome}")).or_insert(0) += 1;
-    }
-    (input, output, outcomes)
-}
-
-/// All calls, in their order in the text.
-pub fn calls() -> Vec<Call> {
-    let mut random = Random::new(SEED);
-    let mut calls = numbers_to_hold_to();
-    calls.extend(bad_lengths());
-    for n in LENGTHS {
-        let mixed = Made::of(&mixed(&mut random, n));
-        calls.extend(mixed.exact());
-        calls.extend(Made::of(&vec![GAP; n]).exact());
-        calls.extend(Made::of(&extremes(&mut random, n)).exact());
-        calls.extend(mixed.roomy());
-        calls.extend(mixed.short());
-        calls.extend(mixed.with_bad_readings(&mut random));
-        calls.extend(mixed.damaged());
-        calls.extend((0..8).map(|_| mixed.damaged_anywhere(&mut random)));
-    }
-    calls.extend(Made::of(&mixed(&mut random, 1_000)).exact());
-    calls.extend(long(&mut random));
-    calls
-}
-
-/// Document 01's numbers to hold to: 1 to 4 and 7 made and turned back, 9 and 10 turned back, and the parts of 11 on
-/// a reading and on n.
-fn numbers_to_hold_to() -> Vec<Call> {
-    let greatest = GREATEST_READING;
-    let series: [&[i32]; 7] =
-        [&[500], &[7, 7], &[7, 9], &[9, 7], &[GAP; 3], &SEVEN_HOURS, &[-greatest, -greatest, greatest, greatest]];
-    let mut calls: Vec<Call> = series.iter().flat_map(|series| Made::of(series).exact()).collect();
-    calls.push(turning_back(2, &[5, 4], &[0], 2));
-    calls.push(turning_back(2, &[5, 5], &[1], 2));
-    calls.push(turning_back(4, &[10, 20, -15, 0], &[0, 0], 4));
-    calls.push(making(1, &[1_000_001], 2, 1));
-    calls.push(making(16_385, &[500], 2, 1));
-    calls
-}
-
-/// Numbers that are no n, with buffers that hold something and with empty ones.
-fn bad_lengths() -> Vec<Call> {
-    let mut calls = Vec::new();
-    for n in [0, 16_385, 32_768, 65_543, 4_294_967_303] {
-        calls.push(making(n, &SEVEN_HOURS, 8, 4));
-        calls.push(making(n, &[1_000_001], 0, 0));
-        calls.push(turning_back(n, &[5, 4, 0], &[9], 3));
-        calls.push(turning_back(n, &[], &[], 0));
-    }
-    calls
-}
-
-/// The longest series: 16,384 hours of any readings, and few grams in 16,383 hours and in 16,384, the latter told to be
-/// one hour shorter, so that the last reading comes out past n.
-fn long(random: &mut Random) -> Vec<Call> {
-    let any = Made::of(&mixed(random, 16_384));
-    let few: Vec<i32> = (0..16_384).map(|_| random.between(0, 9)).collect();
-    let odd = Made::of(&few[1..]);
-    [any.exact(), odd.exact(), vec![Made::of(&few).turned_back_as(16_383)]].concat()
-}
-
-/// A series of readings of every size with gaps among them.
-fn mixed(random: &mut Random, n: usize) -> Vec<i32> {
-    let greatest = random.one_of(&[3, 50_000, GREATEST_READING]);
-    (0..n).map(|_| if random.once_in(4) { GAP } else { random.between(-greatest, greatest) }).collect()
-}
-
-/// A series of the greatest and the least reading alone.
-fn extremes(random: &mut Random, n: usize) -> Vec<i32> {
-    (0..n).map(|_| random.one_of(&[-GREATEST_READING, GREATEST_READING])).collect()
-}
-
 /// What lent buffers hold before: another number at each place, or the same in long ones.
 fn before(length: usize) -> Vec<i32> {
     (0..length as i32).map(|k| if length > 100 { 7 } else { -100 - k }).collect()
 }
 
-fn codes_before(length: usize) -> Vec<u8> {
+/// The same of codes and records.
+fn bytes_before(length: usize) -> Vec<u8> {
     (0..length).map(|k| if length > 100 { 7 } else { 100 + k as u8 }).collect()
-}
-
-/// Making with so many coefficients and codes lent.
-fn making(n: u64, readings: &[i32], coefficients: usize, codes: usize) -> Call {
-    Call::Make { n, readings: readings.to_vec(), coefficients: before(coefficients), codes: codes_before(codes) }
-}
-
-/// Turning back with so many hours lent.
-fn turning_back(n: u64, coefficients: &[i32], codes: &[u8], hours: usize) -> Call {
-    Call::TurnBack { n, coefficients: coefficients.to_vec(), codes: codes.to_vec(), hours: before(hours) }
-}
-
-/// A series with its table.
-struct Made {
-    n: u64,
-    readings: Vec<i32>,
-    coefficients: Vec<i32>,
-    codes: Vec<u8>,
-}
-
-impl Made {
-    fn of(readings: &[i32]) -> Made {
-        let n = readings.len() as u64;
-        let p = Shape::of(n).expect("a series of 1 to 16,384 hours").p as usize;
-        let (mut coefficients, mut codes) = (vec![0; p], vec![0; p / 2]);
-        make(n, readings, &mut coefficients, &mut codes).expect("readings and gaps");
-        Made { n, readings: readings.to_vec(), coefficients, codes }
-    }
-
-    fn p(&self) -> usize {
-        self.coefficients.len()
-    }
-
-    /// Made and turned back with exactly the buffers needed.
-    fn exact(&self) -> Vec<Call> {
-        vec![making(self.n, &self.readings, self.p(), self.p() / 2), self.turned_back_as(self.n)]
-    }
-
-    fn turned_back_as(&self, n: u64) -> Call {
-        turning_back(n, &self.coefficients, &self.codes, n as usize)
-    }
-
-    /// Made and turned back with longer buffers, whose further content must not matter and must stay.
-    fn roomy(&self) -> Vec<Call> {
-        let longer = |buffer: &[i32]| [buffer, &[1_000_001, -5]].concat();
-        let codes = [&self.codes[..], &[9, 255]].concat();
-        vec![
-            making(self.n, &longer(&self.readings), self.p() + 3, self.p() / 2 + 2),
-            turning_back(self.n, &longer(&self.coefficients), &codes, self.p() + 1),
-        ]
-    }
-
-    /// Each buffer one too short, in making with a bad reading too, which is not looked at.
-    fn short(&self) -> Vec<Call> {
-        let (n, p) = (self.n as usize, self.p());
-        let bad = [&[1_000_001], &self.readings[1..]].concat();
-        vec![
-            making(self.n, &self.readings[..n - 1], p, p / 2),
-            making(self.n, &bad, p - 1, p / 2),
-            making(self.n, &self.readings, p, p / 2 - 1),
-            turning_back(self.n, &self.coefficients[..p - 1], &self.codes, n),
-            turning_back(self.n, &self.coefficients, &self.codes[..p / 2 - 1], n),
-            turning_back(self.n, &self.coefficients, &self.codes, n - 1),
-        ]
-    }
-
-    /// An hour that holds neither reading nor gap, and often the last hour too: the least such hour is told.
-    fn with_bad_readings(&self, random: &mut Random) -> Vec<Call> {
-        let bad_reading = |bad: i32| {
-            let mut readings = self.readings.clone();
-            if random.once_in(2) {
-                readings[self.n as usize - 1] = ONLY_LEFT;
-            }
-            readings[random.below(self.n) as usize] = bad;
-            making(self.n, &readings, self.p(), self.p() / 2)
-        };
-        NO_READINGS.map(bad_reading).to_vec()
-    }
-
-    /// Turned back with these coefficients at a place and after it.
-    fn with_coefficients(&self, place: usize, numbers: &[i32]) -> Call {
-        let mut coefficients = self.coefficients.clone();
-        coefficients[place..place + numbers.len()].copy_from_slice(numbers);
-        turning_back(self.n, &coefficients, &self.codes, self.n as usize)
-    }
-
-    /// Turned back with this code at a place.
-    fn with_code(&self, place: usize, code: u8) -> Call {
-        let mut codes = self.codes.clone();
-        codes[place] = code;
-        turning_back(self.n, &self.coefficients, &codes, self.n as usize)
-    }
-
-    /// Damaged in each way there is: root values, details of the first and the last node, a lone mark, codes, and n
-    /// one less, so that the last reading may come out past it.
-    fn damaged(&self) -> Vec<Call> {
-        let roots = [[5, 4], [NEITHER, 5], [5, NEITHER], [1_000_001, 1_000_001], [NEITHER; 2], [0, 0]];
-        let details = [[-2_000_001, 0], [0, 2_000_004], [ONLY_LEFT; 2], [ONLY_RIGHT; 2], [NEITHER; 2], [2_000_000; 2]];
-        let marks = [ONLY_LEFT, ONLY_RIGHT, NEITHER];
-        let mut calls: Vec<Call> = roots.iter().map(|root| self.with_coefficients(0, root)).collect();
-        if self.p() > 2 {
-            for place in [2, self.p() - 2] {
-                calls.extend(details.iter().map(|details| self.with_coefficients(place, details)));
-                calls.extend(marks.map(|mark| self.with_coefficients(place, &[mark])));
-                calls.extend(marks.map(|mark| self.with_coefficients(place + 1, &[mark])));
-            }
-        }
-        for place in [0, self.codes.len() - 1] {
-            calls.extend([0, 1, 2, 3, 4, 5, 255].map(|code| self.with_code(place, code)));
-        }
-        if self.p() > 2 || self.n == 2 {
-            calls.push(self.turned_back_as(self.n - 1));
-        }
-        calls
-    }
-
-    /// One coefficient or one code changed, to a number close by or to any that means something.
-    fn damaged_anywhere(&self, random: &mut Random) -> Call {
-        let place = random.below(self.p() as u64) as usize;
-        let close = self.coefficients[place].wrapping_add(random.one_of(&[-2, -1, 1, 2]));
-        match random.below(4) {
-            0 => self.with_code(place / 2, random.one_of(&[0, 1, 2, 3, 4, 5])),
-            1 => self.with_coefficients(place, &[random.one_of(&NO_READINGS)]),
-            2 => self.with_coefficients(place, &[-self.coefficients[place]]),
-            _ => self.with_coefficients(place, &[close]),
-        }
-    }
 }

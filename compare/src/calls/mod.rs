@@ -2,9 +2,14 @@
 //!
 //! A new call is a file here with its [`Call`], and its line in `main.rs`.
 
+mod ask;
+mod ask_view;
 mod level;
 mod make;
+mod open;
+mod read_record;
 mod turn_back;
+mod write_record;
 
 use std::collections::BTreeMap;
 use std::fmt;
@@ -13,11 +18,18 @@ use std::panic::{catch_unwind, AssertUnwindSafe};
 use second::answer::answer;
 use second::random::Random;
 
+use crate::generate::Room;
 use crate::given::{Given, Head};
+use crate::records::{hours_stated, HEADER};
 
+pub use ask::Ask;
+pub use ask_view::AskView;
 pub use level::Level;
 pub use make::Make;
+pub use open::Open;
+pub use read_record::ReadRecord;
 pub use turn_back::TurnBack;
+pub use write_record::WriteRecord;
 
 /// One kind of call: its numbers and what its buffers hold before.
 pub trait Call: Sized {
@@ -50,6 +62,32 @@ fn taken_or_refused(head: &Head) -> String {
     match head {
         Head::Refused(refusal) => format!("refused {}", refusal.number),
         _ => String::from("taken"),
+    }
+}
+
+/// The same, with refusal 4 told apart by where the unsound node of a table of n hours stands.
+fn outcome_of_table(head: &Head, n: usize) -> String {
+    match head {
+        Head::Refused(refusal) if refusal.number == 4 => {
+            let node = match refusal.place {
+                0 => "the root values",
+                number if number < Room::of(n).codes => "a node above the pairs",
+                _ => "a pair",
+            };
+            format!("refused 4 at {node}")
+        }
+        _ => taken_or_refused(head),
+    }
+}
+
+/// The same, with refusal 8 told apart by where these bytes of a record end.
+fn outcome_of_record(head: &Head, bytes: &[u8]) -> String {
+    match head {
+        Head::Refused(refusal) if refusal.number == 8 => {
+            let end = if bytes.len() < HEADER { "within the header" } else { "after the header" };
+            format!("refused 8 {end}")
+        }
+        _ => outcome_of_table(head, hours_stated(bytes)),
     }
 }
 
@@ -130,6 +168,8 @@ fn compare_one<C: Call>(call: &C) -> Result<String, Box<Difference>> {
 
 #[cfg(test)]
 mod tests {
+    use sagivelume::Refusal;
+
     use super::*;
 
     /// Every call is one that the second program takes or refuses, and the same seed draws the same calls.
@@ -152,6 +192,24 @@ mod tests {
         lines_are_calls::<Make>();
         lines_are_calls::<TurnBack>();
         lines_are_calls::<Level>();
+        lines_are_calls::<WriteRecord>();
+        lines_are_calls::<ReadRecord>();
+        lines_are_calls::<Open>();
+        lines_are_calls::<Ask>();
+        lines_are_calls::<AskView>();
+    }
+
+    #[test]
+    fn causes_of_a_refusal_are_told_apart() {
+        let refused = |number, place| Head::Refused(Refusal { number, place });
+        let record = [0, 0, 0, 31, 1, 0, 7];
+        assert_eq!(outcome_of_record(&refused(8, 0), &record[..6]), "refused 8 within the header");
+        assert_eq!(outcome_of_record(&refused(8, 0), &record), "refused 8 after the header");
+        assert_eq!(outcome_of_record(&refused(4, 0), &record), "refused 4 at the root values");
+        assert_eq!(outcome_of_record(&refused(4, 3), &record), "refused 4 at a node above the pairs");
+        assert_eq!(outcome_of_record(&refused(4, 4), &record), "refused 4 at a pair");
+        assert_eq!(outcome_of_record(&refused(11, 0), &record), "refused 11");
+        assert_eq!(outcome_of_record(&Head::Taken(vec![]), &record), "taken");
     }
 
     #[test]

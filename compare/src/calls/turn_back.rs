@@ -2,7 +2,7 @@
 
 use second::random::Random;
 
-use super::{taken_or_refused, Call};
+use super::{outcome_of_table, Call};
 use crate::generate::{
     draw_held, draw_lent_length, draw_n, draw_table, edge_series, edge_tables, Room, Table, EDGES_OF_N,
     EDGE_LENGTHS,
@@ -86,18 +86,7 @@ impl Call for TurnBack {
         Given::new(Head::of(turned)).read(&coefficients).read(&codes).written(&hours)
     }
 
-    /// Refusal 4 is told apart by where the unsound node stands.
     fn outcome(&self, head: &Head) -> String {
-        match head {
-            Head::Refused(refusal) if refusal.number == 4 => {
-                let node = match refusal.place {
-                    0 => "the root values",
-                    number if number < Room::of(self.n).codes => "a node above the pairs",
-                    _ => "a pair",
-                };
-                format!("refused 4 at {node}")
-            }
-            _ => taken_or_refused(head),
-        }
+        outcome_of_table(head, self.n)
     }
 }

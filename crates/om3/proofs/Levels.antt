@@ -29,6 +29,9 @@ module _ (n : ℕ) where
   pub 2≤P : 2 ≤ P n
   2≤P = pow-mono levels-some
 
+  pub P-most : P n ≤ largestHours
+  P-most = pow-mono levels-most
+
   pub levels-least : (j : ℕ) → 1 ≤ j → n ≤ 2 ^ j → levels n ≤ j
   unfolding levels
   levels-least j a h =

@@ -12,6 +12,7 @@ pub mod Places
 pub mod Reached
 pub mod NodeLists
 pub mod Listed
+pub mod Filled
 pub mod Writes
 pub mod Examined
 pub mod MadeSound
@@ -23,7 +24,12 @@ pub mod Agreeing
 pub mod Demand2
 pub mod Making
 pub mod Taken
+pub mod Threes
 pub mod Bytes
+pub mod Records
+pub mod RecordsOpened
+pub mod RecordsAgain
+pub mod RecordsTaken
 pub mod Edges
 pub mod Intervals
 pub mod Answers

@@ -226,6 +226,12 @@ further =
     ∷ (recordFor 1 (-g 500 ∷ []) is bytes fourteen)
     ∷ (openFor fourteen is says (taken (pos 1 ∷ pos 2 ∷ [])))
     ∷ (openFor (fourteen ++ 0 ∷ []) is refused 11 0)
+    -- a record is refused by the first cause in order [refusals 19]
+    ∷ (openFor (0 ∷ 0 ∷ 0 ∷ 10 ∷ 2 ∷ 0 ∷ []) is refused 8 0)
+    ∷ (openFor (0 ∷ 0 ∷ 0 ∷ 11 ∷ 2 ∷ 0 ∷ 0 ∷ []) is refused 9 0)
+    ∷ (openFor (0 ∷ 0 ∷ 0 ∷ 11 ∷ 1 ∷ 0 ∷ 0 ∷ []) is refused 1 0)
+    ∷ (openFor (0 ∷ 0 ∷ 0 ∷ 11 ∷ 1 ∷ 0 ∷ 1 ∷ []) is refused 10 0)
+    ∷ (openFor (0 ∷ 0 ∷ 0 ∷ 10 ∷ 1 ∷ 0 ∷ 1 ∷ []) is refused 8 0)
     ∷ (askFor fourteen 1 is says (taken (-g 500 ∷ [])))
     ∷ (askFor fourteen 2 is refused 13 0)
     ∷ []

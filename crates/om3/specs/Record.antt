@@ -1,33 +1,46 @@
 -- Document 01, "The house record", byte by byte, with the checks of writing, reading, opening and asking. Assumes
 -- nothing.
 --
+--   Bytes bs                        each number of a list is a byte
 --   bytesOf w x, numberFrom bs      x in w bytes, big-endian; the number that bytes spell
+--   bitsOf z, signedOf x            z in 24 bits, two's complement; the number that 24 bits are
+--   InThree z                       z has room in three bytes
 --   threeBytes z, signedFrom bs     z in three bytes, two's complement; the number that three bytes spell
 --   recordLength n, recordSize n    the length field for n hours; how many bytes the whole record has
 --   recordOf n t                    the record of a table
+--   HasRecord n s r                 a series of n hours has this record
 --   bytesAt r p w                   the w bytes of r from place p on
 --   lengthIn, versionIn, hoursIn    what the fields of a record state
 --   coefficientIn r p, tableIn r    the coefficient at place p, and the whole table, that the bytes state
 --   writingChecks, openingChecks,   the checks of writing, opening and reading, in order
 --   readingChecks
+--   writingBy c n, unpackingBy c n  what writing and reading a record of n hours answer where their checks say c
 --   openedRecord r                  what opening answers
 --   askedView r places p            what a view of the bytes r and of P = places answers when asked for place p
 --   askedRecord r p                 what a record answers when it is opened and asked for place p
+use mathlib.Core.Path.{_≡_}
 use mathlib.Core.Bool.{cond, not, _||_}
 use mathlib.Core.List.{List, [], _∷_, _++_, map, flatMap}
-use Prim.Native.Nat.{ℕ, zero, suc, _+_, _-_, _*_, _/_, _%_, _^_}
+use Prim.Native.Nat.{ℕ, zero, suc, _+_, _-_, _*_, _/_, _%_, _^_, _<_}
 use lib.Dec.{leb, ltb, eqb}
 use lib.IntN.{ℤ, pos, negsuc, _-ℤ_}
-use lib.ListN.{length, take, drop}
+use lib.Signed.{mag}
+use lib.ListN.{length, getD, take, drop}
 use Rattle.words.specs.Constants.{version}
 use Rattle.words.specs.declared.Refusal.the-variants.{CutShort, BadVersion, BadLength, BytesAfter, BadPlace}
+use Rattle.words.specs.declared.Writing.{Writing}
+use Rattle.words.specs.declared.Unpacking.{Unpacking}
 use Rattle.words.specs.declared.Opening.{Opening}
 use Rattle.words.specs.declared.Asking.{Asking}
 use Rattle.om3.specs.Lists.{upFrom}
-use Rattle.om3.specs.Series.{P}
-use Rattle.om3.specs.Table.{Table}
+use Rattle.om3.specs.Series.{levels, P}
+use Rattle.om3.specs.Table.{Table, tableOf}
 use Rattle.om3.specs.Checks.{Check, passes, refuses, refuseIf, inOrder}
 use Rattle.om3.specs.Refusals.{checkHours, checkRoom, short, tableShort, examineTable}
+
+-- A byte is a number from 0 to 255.
+abbrev pub Bytes : List ℕ → Type 0
+Bytes bs = (p : ℕ) → p < length bs → getD bs p 0 < 256
 
 -- Big-endian: the highest byte first. [record 1]
 unfoldable pub bytesOf : ℕ → ℕ → List ℕ
@@ -38,13 +51,23 @@ unfoldable pub numberFrom : List ℕ → ℕ
 numberFrom [] = 0
 numberFrom (b ∷ bs) = b * 256 ^ length bs + numberFrom bs
 
--- Two's complement of three bytes: a negative number stands as that number plus 2^24. [record 5]
-abbrev pub threeBytes : ℤ → List ℕ
-threeBytes (pos m) = bytesOf 3 m
-threeBytes (negsuc m) = bytesOf 3 (2 ^ 24 - suc m)
+-- Three bytes hold −8,388,608 to 8,388,607. [record 5]
+abbrev pub InThree : ℤ → Type 0
+InThree z = mag z < 2 ^ 23
 
-unfoldable pub signedFrom : List ℕ → ℤ
-signedFrom bs = cond (ltb (numberFrom bs) (2 ^ 23)) (pos (numberFrom bs)) (pos (numberFrom bs) -ℤ pos (2 ^ 24))
+-- Two's complement of three bytes: a negative number stands as that number plus 2^24. [record 5]
+abbrev pub bitsOf : ℤ → ℕ
+bitsOf (pos m) = m
+bitsOf (negsuc m) = 2 ^ 24 - suc m
+
+unfoldable pub signedOf : ℕ → ℤ
+signedOf x = cond (ltb x (2 ^ 23)) (pos x) (pos x -ℤ pos (2 ^ 24))
+
+abbrev pub threeBytes : ℤ → List ℕ
+threeBytes z = bytesOf 3 (bitsOf z)
+
+abbrev pub signedFrom : List ℕ → ℤ
+signedFrom bs = signedOf (numberFrom bs)
 
 -- The length of what follows the length field: 3 + 3P + P/2. [record 2]
 abbrev pub recordLength : ℕ → ℕ
@@ -59,6 +82,10 @@ unfoldable pub recordOf : ℕ → Table → List ℕ
 recordOf n t =
     bytesOf 4 (recordLength n) ++ bytesOf 1 version ++ bytesOf 2 n
     ++ flatMap threeBytes (take (P n) (t .coefficients)) ++ take (P n / 2) (t .codes)
+
+-- A series of n hours has the record of its table. [record 6]
+abbrev pub HasRecord : ℕ → List ℤ → List ℕ → Type 0
+HasRecord n s r = r ≡ recordOf n (tableOf (levels n) n s)
 
 -- The w bytes from place p on.
 abbrev pub bytesAt : List ℕ → ℕ → ℕ → List ℕ
@@ -93,6 +120,11 @@ abbrev pub writingChecks : ℕ → Table → ℕ → Check
 writingChecks n t lent =
     inOrder (checkHours n ∷ checkRoom (tableShort n t || short lent (recordSize n)) ∷ examineTable n t ∷ [])
 
+-- A successful writing answers the number of bytes of the record.
+abbrev pub writingBy : Check → ℕ → Writing
+writingBy passes n = Writing.Bytes (recordSize n)
+writingBy (refuses why) n = Writing.Refused why
+
 -- Under 7 bytes 8; then 9, 1, 10; fewer bytes than stated 8; more 11. [refusals 8, 9, 10, 11, 19]
 abbrev pub openingChecks : List ℕ → Check
 openingChecks r =
@@ -109,6 +141,11 @@ openingChecks r =
 abbrev pub readingChecks : List ℕ → Table → Check
 readingChecks r lent =
     inOrder (openingChecks r ∷ checkRoom (tableShort (hoursIn r) lent) ∷ examineTable (hoursIn r) (tableIn r) ∷ [])
+
+-- A successful reading answers n.
+abbrev pub unpackingBy : Check → ℕ → Unpacking
+unpackingBy passes n = Unpacking.Hours n
+unpackingBy (refuses why) n = Unpacking.Refused why
 
 -- Opening makes the reading checks except 3 and 4, and answers n and P. [level 3]
 abbrev pub openedBy : Check → List ℕ → Opening

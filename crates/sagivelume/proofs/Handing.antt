@@ -5,10 +5,17 @@ use Prim.Native.Nat.{ℕ}
 use lib.IntN.{ℤ}
 use Rattle.words.specs.declared.Stretch.{Stretch}
 use Rattle.words.specs.declared.Taking.{Taking}
+use Rattle.words.specs.declared.Writing.{Writing}
+use Rattle.words.specs.declared.Unpacking.{Unpacking}
 use Rattle.making.specs.Making.{Made}
 use Rattle.turning.specs.Turning.{TurnedBack}
+use Rattle.writing.specs.Writing.{RecordWritten}
+use Rattle.reading.specs.Reading.{RecordRead}
 use Rattle.sagivelume.specs.declared.Told.{Told}
+use Rattle.sagivelume.specs.declared.ToldBytes.{ToldBytes}
+use Rattle.sagivelume.specs.declared.ToldHours.{ToldHours}
 use Rattle.sagivelume.specs.Boundary.{toldOf, placesOf, MakeTold, TurnBackTold}
+use Rattle.sagivelume.specs.Boundary.{writingTold, unpackingTold, WriteTold, ReadTold}
 
 pub make-told : (n : ℕ) (s cs : List ℤ) (ks : List ℕ) (cs′ : List ℤ) (ks′ : List ℕ) (t : Taking) (r : Told)
     → Made n s cs ks cs′ ks′ t → r ≡ toldOf t → MakeTold n s cs ks cs′ ks′ r
@@ -28,3 +35,19 @@ turn-back-told n cs ks out out′ t r m e =
 
 pub places-told : (a b : Stretch) → a ≡ b → placesOf a ≡ placesOf b
 places-told a b e = ap placesOf e
+
+pub write-told : (n : ℕ) (cs : List ℤ) (ks out out′ : List ℕ) (w : Writing) (r : ToldBytes)
+    → RecordWritten n cs ks out out′ w → r ≡ writingTold w → WriteTold n cs ks out out′ r
+write-told n cs ks out out′ w r m e =
+    record {
+      written = subst (λ (u : Writing). RecordWritten n cs ks out out′ u) (m .answer) m;
+      answer = e ∙ ap writingTold (m .answer);
+    }
+
+pub read-told : (bs : List ℕ) (cs : List ℤ) (ks : List ℕ) (cs′ : List ℤ) (ks′ : List ℕ) (u : Unpacking) (r : ToldHours)
+    → RecordRead bs cs ks cs′ ks′ u → r ≡ unpackingTold u → ReadTold bs cs ks cs′ ks′ r
+read-told bs cs ks cs′ ks′ u r m e =
+    record {
+      read = subst (λ (v : Unpacking). RecordRead bs cs ks cs′ ks′ v) (m .answer) m;
+      answer = e ∙ ap unpackingTold (m .answer);
+    }

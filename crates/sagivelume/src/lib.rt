@@ -1,9 +1,16 @@
 // The boundary: the calls as C and Rust link them. Numbers pass as themselves, a slice as a pointer and then a length.
+use words::Asking;
+use words::Opening;
 use words::Taking;
+use words::Unpacking;
+use words::Writing;
 ghost use mathlib.Core.Path.{_≡_};
 ghost use lib.ListN.{length};
-ghost use Rattle.sagivelume.specs.Boundary.{toldOf, placesOf, MakeTold, TurnBackTold};
 ghost use Rattle.om3.specs.Level.{levelStretch};
+ghost use Rattle.om3.specs.Record.{openedRecord, askedView};
+ghost use Rattle.sagivelume.specs.Boundary.{toldOf, placesOf, MakeTold, TurnBackTold};
+ghost use Rattle.sagivelume.specs.Boundary.{writingTold, unpackingTold, openingTold, askingTold};
+ghost use Rattle.sagivelume.specs.Boundary.{WriteTold, ReadTold};
 
 // A call's answer: the refusal's number, 0 where the call is taken, and its place.
 #[repr(C)]
@@ -19,6 +26,39 @@ pub struct Places {
     pub length: usize,
 }
 
+// What writing a record answers: how many bytes it has, 0 on a refusal.
+#[repr(C)]
+pub struct ToldBytes {
+    pub number: usize,
+    pub place: usize,
+    pub bytes: usize,
+}
+
+// What reading a record answers: the hours of its series, 0 on a refusal.
+#[repr(C)]
+pub struct ToldHours {
+    pub number: usize,
+    pub place: usize,
+    pub hours: usize,
+}
+
+// What opening a record answers: the hours of its series and how many coefficients it has, 0 on a refusal.
+#[repr(C)]
+pub struct ToldRecord {
+    pub number: usize,
+    pub place: usize,
+    pub hours: usize,
+    pub places: usize,
+}
+
+// What asking a record answers: the coefficient, 0 on a refusal.
+#[repr(C)]
+pub struct ToldCoefficient {
+    pub number: usize,
+    pub place: usize,
+    pub coefficient: i32,
+}
+
 fn told_of(t: Taking) -> Told
     ensures { λ r. ⌜ r ≡ toldOf t ⌝ }
 {
@@ -30,6 +70,76 @@ fn told_of(t: Taking) -> Told
         Taking::Refused(why) => Told {
             number: words::number_of(why),
             place: words::place_of(why),
+        },
+    }
+}
+
+fn told_writing(w: Writing) -> ToldBytes
+    ensures { λ r. ⌜ r ≡ writingTold w ⌝ }
+{
+    match w {
+        Writing::Bytes(bytes) => ToldBytes {
+            number: 0,
+            place: 0,
+            bytes,
+        },
+        Writing::Refused(why) => ToldBytes {
+            number: words::number_of(why),
+            place: words::place_of(why),
+            bytes: 0,
+        },
+    }
+}
+
+fn told_unpacking(u: Unpacking) -> ToldHours
+    ensures { λ r. ⌜ r ≡ unpackingTold u ⌝ }
+{
+    match u {
+        Unpacking::Hours(hours) => ToldHours {
+            number: 0,
+            place: 0,
+            hours,
+        },
+        Unpacking::Refused(why) => ToldHours {
+            number: words::number_of(why),
+            place: words::place_of(why),
+            hours: 0,
+        },
+    }
+}
+
+fn told_opening(o: Opening) -> ToldRecord
+    ensures { λ r. ⌜ r ≡ openingTold o ⌝ }
+{
+    match o {
+        Opening::Record { hours, places } => ToldRecord {
+            number: 0,
+            place: 0,
+            hours,
+            places,
+        },
+        Opening::Refused(why) => ToldRecord {
+            number: words::number_of(why),
+            place: words::place_of(why),
+            hours: 0,
+            places: 0,
+        },
+    }
+}
+
+fn told_asking(a: Asking) -> ToldCoefficient
+    ensures { λ r. ⌜ r ≡ askingTold a ⌝ }
+{
+    match a {
+        Asking::Coefficient(coefficient) => ToldCoefficient {
+            number: 0,
+            place: 0,
+            coefficient,
+        },
+        Asking::Refused(why) => ToldCoefficient {
+            number: words::number_of(why),
+            place: words::place_of(why),
+            coefficient: 0,
         },
     }
 }
@@ -72,4 +182,48 @@ pub extern "C" fn sagivelume_level(n: usize, j: usize, coefficients: &[i32]) -> 
         start: places.from,
         length: places.size,
     }
+}
+
+// Writes the record of a table of n hours: needs P coefficients, P/2 codes and room for 7 + 3P + P/2 bytes. Refusals
+// 1, 3, 4.
+#[no_mangle]
+pub extern "C" fn sagivelume_write_record(
+    n: usize,
+    coefficients: &[i32],
+    codes: &[u8],
+    bytes: &mut [u8],
+) -> ToldBytes
+    ensures { λ r. ⌜ WriteTold n (now (coefficients .entry)) (now (codes .entry))
+        (now (bytes .entry)) (now (bytes .exit)) r ⌝ }
+{
+    told_writing(writing::write_record(n, coefficients, codes, bytes))
+}
+
+// Reads a record into a table: needs room for P coefficients and P/2 codes. Refusals 8, 9, 1, 10, 8, 11, 3, 4.
+#[no_mangle]
+pub extern "C" fn sagivelume_read_record(
+    bytes: &[u8],
+    coefficients: &mut [i32],
+    codes: &mut [u8],
+) -> ToldHours
+    ensures { λ r. ⌜ ReadTold (now (bytes .entry))
+        (now (coefficients .entry)) (now (codes .entry)) (now (coefficients .exit)) (now (codes .exit)) r ⌝ }
+{
+    told_unpacking(reading::read_record(bytes, coefficients, codes))
+}
+
+// Opens a record without unpacking it. Refusals 8, 9, 1, 10, 8, 11.
+#[no_mangle]
+pub extern "C" fn sagivelume_open_record(bytes: &[u8]) -> ToldRecord
+    ensures { λ r. ⌜ r ≡ openingTold (openedRecord (now (bytes .entry))) ⌝ }
+{
+    told_opening(opening::open_record(bytes))
+}
+
+// Asks an opened record, which has so many places, for the coefficient at one of them. Refusals 13, 8.
+#[no_mangle]
+pub extern "C" fn sagivelume_ask(bytes: &[u8], places: usize, place: usize) -> ToldCoefficient
+    ensures { λ r. ⌜ r ≡ askingTold (askedView (now (bytes .entry)) places place) ⌝ }
+{
+    told_asking(opening::ask(bytes, places, place))
 }

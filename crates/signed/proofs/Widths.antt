@@ -52,7 +52,7 @@ pub parts-nonNeg : (z : ℤ) → dn z ≤ up z → T (nonNeg z)
 parts-nonNeg (pos n) h = tt
 parts-nonNeg (negsuc n) h = absurd (omega arith)
 
-natAbs-parts : (z : ℤ) → natAbs z ≡ (up z - dn z) + (dn z - up z)
+pub natAbs-parts : (z : ℤ) → natAbs z ≡ (up z - dn z) + (dn z - up z)
 natAbs-parts (pos n) = omega arith
 natAbs-parts (negsuc n) = omega arith
 

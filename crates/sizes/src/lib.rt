@@ -1,8 +1,9 @@
-// How large a table is.
+// How large a table and its record are.
 ghost use mathlib.Core.Path.{_≡_};
-ghost use Prim.Native.Nat.{_≤_, _^_};
+ghost use Prim.Native.Nat.{_+_, _*_, _/_, _^_, _≤_};
 ghost use Rattle.words.specs.Constants.{largestLevel, largestHours};
 ghost use Rattle.om3.specs.Series.{badHours, P};
+ghost use Rattle.om3.specs.Record.{headerSize};
 
 // Check 1: whether n is 0 or over 16,384.
 pub fn bad_hours(n: usize) -> bool
@@ -35,4 +36,12 @@ pub fn power(j: usize) -> usize
         k += 1;
     }
     p
+}
+
+// How many bytes the record of a table of p places has.
+pub fn record_size(p: usize) -> usize
+    requires { ⌜ p ≤ largestHours ⌝ }
+    ensures { λ r. ⌜ r ≡ headerSize + 3 * p + p / 2 ⌝ }
+{
+    words::HEADER_SIZE + 3 * p + p / 2
 }

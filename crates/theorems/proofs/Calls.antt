@@ -7,10 +7,9 @@ use mathlib.Core.Bool.{true, false, _||_}
 use mathlib.Core.List.{List}
 use mathlib.Core.Logic.{_↔_}
 use Prim.Native.Nat.{ℕ, _/_, _≤_}
-use native.Mathlib.Omega.{arith}
 use lib.IntN.{ℤ}
-use lib.ListN.{length, getD, take, drop, length-append}
-use lib.Seq.{getD-take, take-append-seam}
+use lib.ListN.{length, getD, take}
+use lib.Seq.{getD-take}
 use borrow.Author.Tests.{le-ltb, ltb-false}
 use Rattle.words.specs.Constants.{largestHours, gap}
 use Rattle.words.specs.declared.Refusal.the-variants.{ShortBuffer}
@@ -24,6 +23,7 @@ use Rattle.om3.specs.Refusals.{short, tableShort, checkHours, checkRoom, examin
 use Rattle.om3.specs.Refusals.{makingChecks, turningBackChecks}
 use Rattle.om3.specs.Calls.{filled}
 use Rattle.om3.proofs.Tests.{neither}
+use Rattle.om3.proofs.Filled.{filled-first, filled-room}
 use Rattle.om3.proofs.Lists.{map-up-length}
 use Rattle.om3.proofs.Examined.{examine-sound, then-first, then-second, refuse-not}
 use Rattle.om3.proofs.TurnedBack.{turned-length}
@@ -82,14 +82,6 @@ module _ (n : ℕ) (cs : List ℤ) (ks : List ℕ) (out : List ℤ) where
           let ok = sound-passes (demand2.has-sound n s T series has) in
           let e = rw ok at (done .hours) in
           e ∙ ap (λ (u : List ℤ). filled u out) (sym (demand2.has-turned n s T series has))
-
--- A filled buffer begins with what it was filled with, and has room for it.
-module _ {A : Type 0} (new old : List A) (k : ℕ) (e : length new ≡ k) where
-  filled-first : take k (filled new old) ≡ new
-  filled-first = ap (λ (j : ℕ). take j (filled new old)) (sym e) ∙ take-append-seam new _
-
-  filled-room : k ≤ length (filled new old)
-  filled-room = let z = length-append new (drop (length new) old) in omega (arith, e, z)
 
 -- There and back.
 module _ (n : ℕ) where

@@ -1,4 +1,6 @@
--- The laws about the calls, and then the page.
+-- The laws about the calls, the figures, and then the page.
 pub mod Once
 pub mod Calls
+pub mod Records
+pub mod Figures
 pub mod Theorems

@@ -1,0 +1,96 @@
+-- Opening takes a list of numbers exactly if its fields and its length fit one another; a written record is taken.
+-- Assumes nothing.
+use mathlib.Core.Path.{_≡_, sym}
+use mathlib.Core.Bool.{Bool, false, not}
+use mathlib.Core.List.{List, _∷_}
+use mathlib.Core.Logic.{_↔_}
+use Prim.Native.Nat.{ℕ, _+_, _≤_, _<_}
+use native.Mathlib.Omega.{arith}
+use lib.Dec.{ltb, eqb}
+use lib.IntN.{pos}
+use lib.ListN.{length, getD}
+use borrow.Author.Tests.{le-ltb, ltb-false, eq-eqb, eqb-true, not-false}
+use Rattle.words.specs.Constants.{largestHours, version}
+use Rattle.words.specs.declared.Refusal.{Refusal}
+use Rattle.words.specs.declared.Refusal.the-variants.{BadHours, CutShort, BadVersion, BadLength, BytesAfter}
+use Rattle.om3.specs.Series.{badHours, P}
+use Rattle.om3.specs.Table.{Table}
+use Rattle.om3.specs.Checks.{Check, passes, refuseIf, inOrder}
+use Rattle.om3.specs.Refusals.{tableShort}
+use Rattle.om3.specs.Record.{recordLength, recordSize, recordOf, headerSize, lengthIn, versionIn, hoursIn}
+use Rattle.om3.specs.Record.{coefficientIn, tableIn, openingChecks}
+use Rattle.om3.proofs.Lists.{map-up-from-0}
+use Rattle.om3.proofs.Examined.{then-first, then-second, refuse-not}
+use Rattle.om3.proofs.Taken.{good-hours}
+use Rattle.om3.proofs.Records.{record-length-in, record-version-in, record-hours-in, record-size}
+
+-- The fields fit one another and the length.
+pub record WellFormed (r : List ℕ) : Type 0 where
+  pub versioned : versionIn r ≡ version
+  pub timed : badHours (hoursIn r) ≡ false
+  pub stated : lengthIn r ≡ recordLength (hoursIn r)
+  pub sized : length r ≡ recordSize (hoursIn r)
+
+-- Checks in order pass only if the first and the others do; so the cause of the first is not there.
+pub order-parts : (c : Check) (cs : List Check) → inOrder (c ∷ cs) ≡ passes → (c ≡ passes) × (inOrder cs ≡ passes)
+unfolding inOrder
+order-parts c cs e = (then-first c (inOrder cs) e, then-second c (inOrder cs) e)
+
+first-absent : (b : Bool) (why : Refusal) (cs : List Check) → inOrder (refuseIf b why ∷ cs) ≡ passes
+    → (b ≡ false) × (inOrder cs ≡ passes)
+first-absent b why cs e = let h = order-parts (refuseIf b why) cs e in (refuse-not b why (h .0), h .1)
+
+module _ (r : List ℕ) where
+  pub formed-opens : WellFormed r → openingChecks r ≡ passes
+  unfolding inOrder
+  formed-opens w =
+      let long : headerSize ≤ length r = omega (arith, w .sized) in
+      let whole : 4 + lengthIn r ≤ length r = omega (arith, w .sized, w .stated) in
+      let over : length r ≤ 4 + lengthIn r = omega (arith, w .sized, w .stated) in
+      rw (
+        le-ltb _ _ long,
+        eq-eqb _ _ (w .versioned),
+        w .timed,
+        eq-eqb _ _ (w .stated),
+        le-ltb _ _ whole,
+        le-ltb _ _ over,
+      )
+
+  pub opens-formed : openingChecks r ≡ passes → WellFormed r
+  opens-formed h =
+      let a = first-absent (ltb (length r) headerSize) CutShort _ h in
+      let b = first-absent (not (eqb (versionIn r) version)) BadVersion _ (a .1) in
+      let c = first-absent (badHours (hoursIn r)) BadHours _ (b .1) in
+      let d = first-absent (not (eqb (lengthIn r) (recordLength (hoursIn r)))) BadLength _ (c .1) in
+      let e = first-absent (ltb (length r) (4 + lengthIn r)) CutShort _ (d .1) in
+      let f = first-absent (ltb (4 + lengthIn r) (length r)) BytesAfter _ (e .1) in
+      let same : lengthIn r ≡ recordLength (hoursIn r) = eqb-true _ _ (not-false _ (d .0)) in
+      record {
+        versioned = eqb-true _ _ (not-false _ (b .0));
+        timed = c .0;
+        stated = same;
+        sized = omega (arith, ltb-false (length r) _ (e .0), ltb-false _ (length r) (f .0));
+      }
+
+  -- [refusals 8, 9, 10, 11, 19]
+  pub opening-exactly : (openingChecks r ≡ passes) ↔ WellFormed r
+  opening-exactly = (opens-formed, formed-opens)
+
+-- A written record is taken.
+pub record-opens : (n : ℕ) (t : Table) → 1 ≤ n → n ≤ largestHours → tableShort n t ≡ false
+    → openingChecks (recordOf n t) ≡ passes
+record-opens n t some most room =
+    let same = record-hours-in n t most in
+    formed-opens (recordOf n t)
+    (record {
+      versioned = record-version-in n t;
+      timed = rw same (good-hours n some most);
+      stated = rw same (record-length-in n t);
+      sized = rw same (record-size n t room);
+    })
+
+-- The coefficient at a place, straight from the bytes, is that of the table unpacked from them. [level 3]
+pub asked-unpacked : (r : List ℕ) (p : ℕ) → p < P (hoursIn r)
+    → coefficientIn r p ≡ getD (tableIn r .coefficients) p (pos 0)
+unfolding tableIn
+asked-unpacked r p h = sym (map-up-from-0 (coefficientIn r) (pos 0) (P (hoursIn r)) p h)

@@ -1,0 +1,133 @@
+-- Reading takes a record exactly if some series has it, and that series is the only one: a record that is taken is that
+-- of the table it states, and the table is sound exactly if some series has it. Assumes nothing.
+use mathlib.Core.Path.{_≡_, sym, ap, _∙_}
+use mathlib.Core.Bool.{true, false, _||_}
+use mathlib.Core.List.{List}
+use mathlib.Core.Logic.{_↔_}
+use Prim.Native.Nat.{ℕ, _+_, _*_, _/_, _≤_}
+use native.Mathlib.Omega.{arith}
+use lib.IntN.{ℤ}
+use lib.ListN.{length, take}
+use borrow.Author.Tests.{le-ltb}
+use Rattle.words.specs.Constants.{largestHours}
+use Rattle.om3.specs.Series.{Series, badHours, levels, P}
+use Rattle.om3.specs.Table.{Table, coefficient, codeOfPlace, tableOf, HasTable}
+use Rattle.om3.specs.Down.{turnedBack}
+use Rattle.om3.specs.Sound.{soundTable}
+use Rattle.om3.specs.Checks.{passes, inOrder}
+use Rattle.om3.specs.Refusals.{short, tableShort, examineTable}
+use Rattle.om3.specs.Record.{Bytes, recordSize, recordOf, HasRecord, headerSize, hoursIn, coefficientIn, tableIn}
+use Rattle.om3.specs.Record.{writingChecks, openingChecks, readingChecks}
+use Rattle.om3.proofs.Lists.{map-up-length}
+use Rattle.om3.proofs.Levels.{levels-some}
+use Rattle.om3.proofs.Examined.{then-passes, examine-sound}
+use Rattle.om3.proofs.Demand2.{made-has, made-turned, has-sound, turned-series, turned-has}
+use Rattle.om3.proofs.Making.{good-some}
+use Rattle.om3.proofs.Threes.{sound-threes}
+use Rattle.om3.proofs.Records.{record-hours-in, record-table-in}
+use Rattle.om3.proofs.RecordsOpened.{order-parts, opens-formed, record-opens}
+use Rattle.om3.proofs.RecordsAgain.{part-length, record-again}
+
+-- With hours and room in order, the examination alone decides writing; with the fields and the room in order, reading.
+pub writing-decided : (n : ℕ) → badHours n ≡ false → (t : Table) (lent : ℕ)
+    → (tableShort n t || short lent (recordSize n)) ≡ false → writingChecks n t lent ≡ examineTable n t
+unfolding inOrder
+writing-decided n good t lent room = rw (good, room) (then-passes (examineTable n t))
+
+pub reading-decided : (r : List ℕ) → openingChecks r ≡ passes → (lent : Table) → tableShort (hoursIn r) lent ≡ false
+    → readingChecks r lent ≡ examineTable (hoursIn r) (tableIn r)
+reading-decided r opens lent room =
+    unfold inOrder in rw (opens, room) (then-passes (examineTable (hoursIn r) (tableIn r)))
+
+-- A sound table is read back from its record: its coefficients have room in three bytes.
+pub sound-back : (n : ℕ) (t : Table) → n ≤ largestHours → tableShort n t ≡ false → soundTable (levels n) n t ≡ true
+    → tableIn (recordOf n t) ≡ record { coefficients = take (P n) (t .coefficients); codes = take (P n / 2) (t .codes) }
+sound-back n t most room ok =
+    record-table-in n t room (sound-threes (levels n) n t (levels-some n) ok) most
+
+-- Room that is there is not short.
+room-enough : (n : ℕ) (t : Table) → P n ≤ length (t .coefficients) → P n / 2 ≤ length (t .codes)
+    → tableShort n t ≡ false
+room-enough n t a b = rw (le-ltb _ _ a, le-ltb _ _ b)
+
+-- The table that an opened record states has its places.
+pub opened-room : (r : List ℕ) → openingChecks r ≡ passes → tableShort (hoursIn r) (tableIn r) ≡ false
+unfolding tableIn
+opened-room r opens =
+    let n = hoursIn r in
+    let w = opens-formed r opens in
+    let a = map-up-length (coefficientIn r) 0 (P n) in
+    let b = part-length r (headerSize + 3 * P n) (P n / 2) (omega (arith, w .sized)) in
+    room-enough n (tableIn r) (omega arith) (omega arith)
+
+-- Of a table only the places needed are written: the record of a table that a series has is that of the series.
+pub table-record : (n : ℕ) (s : List ℤ) (t : Table) → HasTable n s t → HasRecord n s (recordOf n t)
+unfolding recordOf
+table-record n s t h =
+    let made = made-has n s in
+    rw (h .coefficients, h .codes, made .coefficients, made .codes)
+
+-- A record that is read: the series that its table turns back to has it.
+pub taken-series : (r : List ℕ) → Bytes r → (lent : Table) → tableShort (hoursIn r) lent ≡ false
+    → readingChecks r lent ≡ passes → (s : List ℤ) × Series (hoursIn r) s × HasRecord (hoursIn r) s r
+taken-series r bytes lent room h =
+    let n = hoursIn r in
+    let t = tableIn r in
+    let opens = order-parts (openingChecks r) _ h .0 in
+    let good = good-some n (opens-formed r opens .timed) in
+    let ok = examine-sound (levels n) n t .0 (sym (reading-decided r opens lent room) ∙ h) in
+    let s = turnedBack (levels n) t n in
+    let has = turned-has n (good .0) (good .1) t ok (opened-room r opens) in
+    (s, turned-series n (good .0) (good .1) t ok, sym (record-again r bytes opens) ∙ table-record n s t has)
+
+-- The record of a series: it states the hours and the table of the series, and is read.
+module _ (n : ℕ) (s : List ℤ) (series : Series n s) where
+  abbrev T : Table
+  T = tableOf (levels n) n s
+
+  made-room : tableShort n T ≡ false
+  made-room =
+      let a = map-up-length (coefficient (levels n) n s) 0 (P n) in
+      let b = map-up-length (codeOfPlace (levels n) n s) 0 (P n / 2) in
+      room-enough n T (omega arith) (omega arith)
+
+  made-ok : soundTable (levels n) n T ≡ true
+  made-ok = has-sound n s T series (made-has n s)
+
+  pub made-hours : hoursIn (recordOf n T) ≡ n
+  made-hours = record-hours-in n T (series .most)
+
+  pub made-table : tableIn (recordOf n T) ≡ T
+  made-table =
+      sound-back n T (series .most) made-room made-ok
+      ∙ (λ i. record { coefficients = made-has n s .coefficients i; codes = made-has n s .codes i })
+
+  pub made-read : (lent : Table) → tableShort n lent ≡ false → readingChecks (recordOf n T) lent ≡ passes
+  made-read lent room =
+      let opens = record-opens n T (series .some) (series .most) made-room in
+      reading-decided (recordOf n T) opens lent (rw made-hours room)
+      ∙ rw (made-hours, made-table) (examine-sound (levels n) n T .1 made-ok)
+
+-- Read exactly if some series of the hours that it states has it.
+pub reading-exactly : (r : List ℕ) → Bytes r → (lent : Table) → tableShort (hoursIn r) lent ≡ false
+    → (readingChecks r lent ≡ passes) ↔ ((s : List ℤ) × Series (hoursIn r) s × HasRecord (hoursIn r) s r)
+reading-exactly r bytes lent room = (
+  taken-series r bytes lent room,
+  λ h. ap (λ (x : List ℕ). readingChecks x lent) (h .2) ∙ made-read (hoursIn r) (h .0) (h .1) lent room,
+)
+
+-- A record states the hours and the table of the series that has it, and its table turns back to that series.
+module _ (n : ℕ) (r : List ℕ) (s : List ℤ) (series : Series n s) (has : HasRecord n s r) where
+  pub record-hours : hoursIn r ≡ n
+  record-hours = ap hoursIn has ∙ made-hours n s series
+
+  pub record-table : tableIn r ≡ tableOf (levels n) n s
+  record-table = ap tableIn has ∙ made-table n s series
+
+  pub record-turned : turnedBack (levels n) (tableIn r) n ≡ s
+  record-turned = rw record-table (made-turned n s series)
+
+-- So only one series has it.
+pub record-series : (n : ℕ) (r : List ℕ) (s u : List ℤ) → Series n s → HasRecord n s r → Series n u → HasRecord n u r
+    → s ≡ u
+record-series n r s u a p b q = sym (record-turned n r s a p) ∙ record-turned n r u b q

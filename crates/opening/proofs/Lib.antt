@@ -1,0 +1,3 @@
+-- What opening and asking answer, check by check.
+pub mod Opened
+pub mod Asked

@@ -1,0 +1,106 @@
+-- Each answer of opening a record, its checks in their order. Assumes nothing.
+use mathlib.Core.Path.{_≡_, _∙_}
+use mathlib.Core.Bool.{true, false, not}
+use mathlib.Core.List.{List, [], _∷_}
+use Prim.Native.Nat.{ℕ, _+_, _*_, _/_, _≤_, _<_}
+use native.Mathlib.Omega.{arith}
+use lib.Dec.{ltb, eqb}
+use lib.ListN.{length, getD}
+use lib.Seq.{drop-cons}
+use borrow.Author.Tests.{lt-ltb, le-ltb, ne-eqb, eq-eqb}
+use Rattle.words.specs.Constants.{version}
+use Rattle.words.specs.declared.Refusal.{Refusal}
+use Rattle.words.specs.declared.Refusal.the-variants.{BadHours, CutShort, BadVersion, BadLength, BytesAfter}
+use Rattle.words.specs.declared.Opening.{Opening}
+use Rattle.om3.specs.Series.{badHours, P}
+use Rattle.om3.specs.Checks.{refuses, refuseIf, inOrder}
+use Rattle.om3.specs.Refusals.{checkHours}
+use Rattle.om3.specs.Record.{numberFrom, recordLength, headerSize, lengthIn, versionIn, hoursIn}
+use Rattle.om3.specs.Record.{openingChecks, openedRecord}
+
+module _ (r : List ℕ) where
+  refused : (why : Refusal) → openingChecks r ≡ refuses why → Opening.Refused why ≡ openedRecord r
+  unfolding openedRecord
+  refused why e = rw e
+
+  pub under-seven : length r < headerSize → Opening.Refused CutShort ≡ openedRecord r
+  unfolding inOrder
+  under-seven h = refused CutShort (rw (lt-ltb (length r) headerSize h))
+
+  version-byte : headerSize ≤ length r → versionIn r ≡ getD r 4 0
+  unfolding numberFrom
+  version-byte h =
+      let four : 4 < length r = omega arith in
+      rw (drop-cons r 4 0 four) (omega arith)
+
+  pub other-version : headerSize ≤ length r → (getD r 4 0 ≡ version → ⊥) → Opening.Refused BadVersion ≡ openedRecord r
+  unfolding inOrder
+  other-version h ne =
+      refused BadVersion
+      (rw (le-ltb (length r) headerSize h, version-byte h, ne-eqb (getD r 4 0) version ne))
+
+  -- The header is whole, of version 1, and states n hours.
+  pub record Header (n : ℕ) : Type 0 where
+    pub long : headerSize ≤ length r
+    pub isVersion : getD r 4 0 ≡ version
+    pub hours : n ≡ hoursIn r
+
+  module _ (n : ℕ) (h : Header n) where
+    -- What is left to check after it.
+    after-header : openingChecks r
+        ≡ inOrder
+        (checkHours (hoursIn r)
+        ∷ refuseIf (not (eqb (lengthIn r) (recordLength (hoursIn r)))) BadLength
+        ∷ refuseIf (ltb (length r) (4 + lengthIn r)) CutShort
+        ∷ refuseIf (ltb (4 + lengthIn r) (length r)) BytesAfter
+        ∷ [])
+    unfolding inOrder
+    after-header = rw (le-ltb (length r) headerSize (h .long), version-byte (h .long), h .isVersion)
+
+    pub bad-hours : badHours n ≡ true → Opening.Refused BadHours ≡ openedRecord r
+    unfolding inOrder
+    bad-hours b = refused BadHours (after-header ∙ rw (rw (h .hours) at b))
+
+    -- n is a number of hours, their record has this size, and the first field states x bytes.
+    pub record Stated (size x : ℕ) : Type 0 where
+      pub good : badHours n ≡ false
+      pub whole : size ≡ headerSize + 3 * P n + P n / 2
+      pub field : x ≡ lengthIn r
+
+    module _ (size x : ℕ) (s : Stated size x) where
+      pub other-length : (4 + x ≡ size → ⊥) → Opening.Refused BadLength ≡ openedRecord r
+      unfolding inOrder
+      other-length ne =
+          let ne′ : lengthIn r ≡ recordLength (hoursIn r) → ⊥ =
+          λ e. ne (rw (s .whole, h .hours, s .field) (omega (arith, e))) in
+          refused BadLength
+          (after-header ∙ rw (rw (h .hours) at (s .good), ne-eqb (lengthIn r) (recordLength (hoursIn r)) ne′))
+
+      module _ (same : 4 + x ≡ size) where
+        -- What is left to check after the fields.
+        after-fields : openingChecks r
+            ≡ inOrder
+            (refuseIf (ltb (length r) size) CutShort ∷ refuseIf (ltb size (length r)) BytesAfter ∷ [])
+        unfolding inOrder
+        after-fields =
+            let right : lengthIn r ≡ recordLength (hoursIn r) =
+            let w = rw (h .hours) at (s .whole) in omega (arith, same, s .field, w) in
+            let stated : 4 + lengthIn r ≡ size = omega (arith, same, s .field) in
+            after-header ∙ rw (rw (h .hours) at (s .good), eq-eqb _ _ right, stated)
+
+        pub fewer-bytes : length r < size → Opening.Refused CutShort ≡ openedRecord r
+        unfolding inOrder
+        fewer-bytes f = refused CutShort (after-fields ∙ rw (lt-ltb (length r) size f))
+
+        pub more-bytes : size < length r → Opening.Refused BytesAfter ≡ openedRecord r
+        unfolding inOrder
+        more-bytes f =
+            refused BytesAfter
+            (after-fields ∙ rw (le-ltb (length r) size (omega arith), lt-ltb size (length r) f))
+
+        pub whole-record : length r ≡ size → (p : ℕ) → p ≡ P n → Opening.Record n p ≡ openedRecord r
+        unfolding inOrder openedRecord
+        whole-record f p e =
+            let a = le-ltb (length r) size (omega arith) in
+            let b = le-ltb size (length r) (omega arith) in
+            rw (after-fields, a, b, e, h .hours)

@@ -1,0 +1,137 @@
+-- `open_record` makes the checks in their order. Assumes nothing.
+use mathlib.Core.Path.{_≡_, sym, _∙_}
+use mathlib.Core.Bool.{false}
+use Prim.Native.Nat.{_≤_}
+use native.Mathlib.Nat.{le-antisymm}
+use native.Mathlib.Omega.{arith}
+use lib.ListN.{length}
+use lib.Seq.{length-take-le}
+use borrow.Author.Needs.{needs}
+use Rattle.om3.specs.Series.{badHours}
+use Rattle.om3.proofs.Making.{good-some}
+use Rattle.om3.proofs.Levels.{P-most}
+use Rattle.opening.proofs.Opened as laws
+use Rattle.opening.proofs.open_record.Statement.{statement}
+use Rattle.opening.proofs.open_record.Tie as tie
+
+-- The header is whole and of version 1; its hours are read.
+header : (c : tie.After-number-from) →
+    laws.Header (c .before .before .before .before .before .before .args .bytes .now) (c .number-from .result)
+header c =
+    let c2 = c .before .before in
+    record {
+      long = c2 .before .before .if1 .left;
+      isVersion = c2 .if2 .left;
+      hours = c .number-from .ensures .0;
+    }
+
+-- They are a number of hours.
+good : (c : tie.Else3) → badHours (c .before .before .number-from .result) ≡ false
+good c = sym (c .before .bad-hours .ensures) ∙ c .if3 .left
+
+stated : (c : tie.After-number-from2) →
+    (let c6 = c .before .before .before .before .before .before in
+    let r = c6 .before .before .before .before .before .before .args .bytes .now in
+    laws.Stated r _ (header c6) (c .before .before .record-size .result) (c .number-from2 .result))
+stated c =
+    let c3 = c .before .before .before in
+    record {
+      good = good (c3 .before);
+      whole = rw (c3 .places .ensures) at (c .before .before .record-size .ensures);
+      field = c .number-from2 .ensures .0;
+    }
+
+returns : tie.Need-returns
+returns c = laws.under-seven _ (c .if1 .taken)
+
+shared-slice-read-if2 : tie.Need-shared-slice-read-if2
+shared-slice-read-if2 c = search needs
+
+returns-2 : tie.Need-returns-2
+returns-2 c = laws.other-version _ (c .before .before .if1 .left) (c .if2 .taken)
+
+sub-number-from : tie.Need-sub-number-from
+sub-number-from c = search needs
+
+part-number-from-start : tie.Need-part-number-from-start
+part-number-from-start c = search needs
+
+part-number-from-end : tie.Need-part-number-from-end
+part-number-from-end c = search needs
+
+number-from-requires : tie.Need-number-from-requires
+number-from-requires c κs = search needs
+
+bad-hours-requires : tie.Need-bad-hours-requires
+bad-hours-requires c κs = search needs
+
+returns-3 : tie.Need-returns-3
+returns-3 c = laws.bad-hours _ _ (header (c .before .before)) (sym (c .before .bad-hours .ensures) ∙ c .if3 .taken)
+
+places-requires : tie.Need-places-requires
+places-requires c κs = good-some _ (good c) .1
+
+record-size-requires : tie.Need-record-size-requires
+record-size-requires c κs = rw (c .places .ensures) (P-most (c .before .before .before .number-from .result))
+
+sub-number-from-2 : tie.Need-sub-number-from-2
+sub-number-from-2 c = search needs
+
+part-number-from-start-2 : tie.Need-part-number-from-start-2
+part-number-from-start-2 c = search needs
+
+part-number-from-end-2 : tie.Need-part-number-from-end-2
+part-number-from-end-2 c = search needs
+
+number-from-requires-2 : tie.Need-number-from-requires-2
+number-from-requires-2 c κs = search needs
+
+add-if4 : tie.Need-add-if4
+add-if4 c =
+    let c6 = c .before .before .before .before .before .before in
+    let r = c6 .before .before .before .before .before .before .args .bytes .now in
+    let four : 4 ≤ length r = omega (arith, header c6 .long) in
+    omega (arith, rw (length-take-le 4 r four) at (c .number-from2 .ensures .1))
+
+returns-4 : tie.Need-returns-4
+returns-4 c = laws.other-length _ _ _ _ _ (stated (c .before)) (c .if4 .taken)
+
+returns-5 : tie.Need-returns-5
+returns-5 c = laws.fewer-bytes _ _ _ _ _ (stated (c .before .before)) (c .before .if4 .left) (c .if5 .taken)
+
+returns-6 : tie.Need-returns-6
+returns-6 c =
+    let c2 = c .before .before in
+    laws.more-bytes _ _ _ _ _ (stated (c2 .before)) (c2 .if4 .left) (c .if6 .taken)
+
+returns-7 : tie.Need-returns-7
+returns-7 c =
+    let c2 = c .before .before in
+    let c6 = c2 .before .before .before .before in
+    let size = le-antisymm (c .if6 .left) (c .before .if5 .left) in
+    laws.whole-record _ _ _ _ _ (stated (c2 .before)) (c2 .if4 .left) size _ (c6 .places .ensures)
+
+pub open-record-spec : {M : Type 1} → statement M
+open-record-spec =
+    tie.close
+    (tie.spec
+    returns
+    shared-slice-read-if2
+    returns-2
+    sub-number-from
+    part-number-from-start
+    part-number-from-end
+    number-from-requires
+    bad-hours-requires
+    returns-3
+    places-requires
+    record-size-requires
+    sub-number-from-2
+    part-number-from-start-2
+    part-number-from-end-2
+    number-from-requires-2
+    add-if4
+    returns-4
+    returns-5
+    returns-6
+    returns-7)

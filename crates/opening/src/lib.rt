@@ -1,0 +1,63 @@
+// Opening a record, and asking it for single coefficients without unpacking it. [level 3]
+use words::Asking;
+use words::Opening;
+use words::Refusal;
+ghost use mathlib.Core.Path.{_≡_};
+ghost use Rattle.om3.specs.Record.{openedRecord, askedView, askedRecord};
+
+// Opens a record: what it says of its hours, and how many coefficients it has. Refusals in the order 8 (under 7
+// bytes), 9, 1, 10, 8 (fewer bytes than stated), 11.
+pub fn open_record(bytes: &[u8]) -> Opening
+    ensures { λ r. ⌜ r ≡ openedRecord (now (bytes .entry)) ⌝ }
+{
+    if bytes.len() < words::HEADER_SIZE {
+        return Opening::Refused(Refusal::CutShort);
+    }
+    if bytes[4] != words::VERSION {
+        return Opening::Refused(Refusal::BadVersion);
+    }
+    let hours = packing::number_from(&bytes[5..7]);
+    if sizes::bad_hours(hours) {
+        return Opening::Refused(Refusal::BadHours);
+    }
+    let places = sizes::places(hours);
+    let size = sizes::record_size(places);
+    if words::LENGTH_SIZE + packing::number_from(&bytes[0..4]) != size {
+        return Opening::Refused(Refusal::BadLength);
+    }
+    if bytes.len() < size {
+        return Opening::Refused(Refusal::CutShort);
+    }
+    if size < bytes.len() {
+        return Opening::Refused(Refusal::BytesAfter);
+    }
+    Opening::Record { hours, places }
+}
+
+// The coefficient at a place of a record that was opened and has so many of them. Refusals in the order 13, 8; the
+// second comes for no record that opening takes.
+pub fn ask(bytes: &[u8], places: usize, place: usize) -> Asking
+    ensures { λ r. ⌜ r ≡ askedView (now (bytes .entry)) places place ⌝ }
+{
+    if places <= place {
+        return Asking::Refused(Refusal::BadPlace);
+    }
+    if bytes.len() < words::HEADER_SIZE {
+        return Asking::Refused(Refusal::CutShort);
+    }
+    let packed = &bytes[7..];
+    if packed.len() / 3 <= place {
+        return Asking::Refused(Refusal::CutShort);
+    }
+    Asking::Coefficient(packing::coefficient_at(packed, place))
+}
+
+// Opens a record and asks it. Refusals of opening, then 13.
+pub fn ask_record(bytes: &[u8], place: usize) -> Asking
+    ensures { λ r. ⌜ r ≡ askedRecord (now (bytes .entry)) place ⌝ }
+{
+    match open_record(bytes) {
+        Opening::Record { hours: _, places } => ask(bytes, places, place),
+        Opening::Refused(why) => Asking::Refused(why),
+    }
+}

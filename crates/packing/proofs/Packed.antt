@@ -1,0 +1,126 @@
+-- Coefficients packed one after the other, three bytes each: the bytes of one of them, one more packed, one more
+-- unpacked. Assumes nothing.
+use mathlib.Core.Path.{_≡_, refl, sym, ap, _∙_}
+use mathlib.Core.List.{List, [], _∷_, _++_, map, flatMap, append-nil, append-assoc, map-append}
+use Prim.Native.Nat.{ℕ, suc, _+_, _-_, _*_, _/_, _≤_, _<_}
+use native.Mathlib.Nat.{zero-add}
+use native.Mathlib.Omega.{arith}
+use lib.IntN.{ℤ, pos}
+use lib.ListN.{length, getD, take, drop, set, length-drop}
+use lib.Seq.{take-all, take-suc, length-take-le}
+use Rattle.om3.specs.Lists.{upFrom}
+use Rattle.om3.specs.Calls.{filled}
+use Rattle.om3.specs.Record.{bytesOf, bytesAt, bitsOf, threeBytes}
+use Rattle.om3.proofs.Lists.{up-append, map-up-length}
+use Rattle.om3.proofs.Filled.{filled-length, filled-part, filled-set, filled-all}
+use Rattle.om3.proofs.Bytes.{three-length, threes-length}
+use Rattle.packing.specs.Packing.{coefficientFrom, unpacked}
+
+-- The part of place p, from 3p up to, not including, 3p + 3, is three bytes long.
+module _ (bs : List ℕ) (p : ℕ) where
+  pub part-three : take (3 * p + 3 - 3 * p) (drop (3 * p) bs) ≡ bytesAt bs (3 * p) 3
+  part-three = let e : 3 * p + 3 - 3 * p ≡ 3 = omega arith in ap (λ (w : ℕ). take w (drop (3 * p) bs)) e
+
+  pub part-length : 3 * p + 3 ≤ length bs → length (bytesAt bs (3 * p) 3) ≡ 3
+  part-length h = length-take-le 3 (drop (3 * p) bs) (omega (arith, length-drop (3 * p) bs))
+
+threes-snoc : (cs : List ℤ) (z : ℤ) → flatMap threeBytes (cs ++ (z ∷ [])) ≡ flatMap threeBytes cs ++ threeBytes z
+unfolding flatMap
+threes-snoc [] z = append-nil (threeBytes z)
+threes-snoc (y ∷ cs) z =
+    ap (λ (l : List ℕ). threeBytes y ++ l) (threes-snoc cs z)
+    ∙ sym (append-assoc (threeBytes y) (flatMap threeBytes cs) (threeBytes z))
+
+-- The first p coefficients are packed.
+pub record Packed (cs : List ℤ) (old out : List ℕ) (p : ℕ) : Type 0 where
+  pub within : p ≤ length cs
+  pub packed : out ≡ filled (flatMap threeBytes (take p cs)) old
+
+module _ (cs : List ℤ) (old : List ℕ) (size : length old ≡ 3 * length cs) where
+  pub packed-none : Packed cs old old 0
+  unfolding flatMap
+  packed-none = record { within = omega arith; packed = refl }
+
+  first-length : (p : ℕ) → p ≤ length cs → length (flatMap threeBytes (take p cs)) ≡ 3 * p
+  first-length p h = threes-length (take p cs) ∙ ap (λ (k : ℕ). 3 * k) (length-take-le p cs h)
+
+  module _ (out : List ℕ) (p : ℕ) (k : Packed cs old out p) where
+    abbrev first : List ℕ
+    first = flatMap threeBytes (take p cs)
+
+    pub packed-length : length out ≡ length old
+    packed-length =
+        rw (k .packed) (filled-length first old (omega (arith, size, k .within, first-length p (k .within))))
+
+    part-spelled : (part : List ℕ) (bits : ℕ) → p < length cs → bits ≡ bitsOf (getD cs p (pos 0))
+        → part ≡ bytesOf (length (take (3 * p + 3 - 3 * p) (drop (3 * p) out))) bits
+        → part ≡ threeBytes (getD cs p (pos 0))
+    part-spelled part bits h b e =
+        let w = part-length out p (omega (arith, packed-length, size)) in
+        e ∙ rw (part-three out p, w, b)
+
+    pub packed-more : (part : List ℕ) (bits : ℕ) → p < length cs → bits ≡ bitsOf (getD cs p (pos 0))
+        → part ≡ bytesOf (length (take (3 * p + 3 - 3 * p) (drop (3 * p) out))) bits
+        → Packed cs old (take (3 * p) out ++ (part ++ drop (3 * p + 3 - 3 * p) (drop (3 * p) out))) (p + 1)
+    packed-more part bits h b e₀ =
+        let z = getD cs p (pos 0) in
+        let e = part-spelled part bits h b e₀ in
+        let s : p + 1 ≡ suc p = omega arith in
+        let w : 3 * p + length (threeBytes z) ≡ 3 * p + 3 = omega (arith, three-length z) in
+        record {
+          within = omega arith;
+          packed =
+              rw (k .packed, e, filled-part first old (threeBytes z) _ _ (first-length p (k .within)) w, s)
+              (ap (λ (new : List ℕ). filled new old)
+              (sym (ap (flatMap threeBytes) (take-suc cs p (pos 0) h) ∙ threes-snoc (take p cs) z)));
+        }
+
+    pub packed-all : length cs ≤ p → out ≡ flatMap threeBytes cs
+    packed-all h =
+        k .packed
+        ∙ filled-all first old (omega (arith, size, k .within, first-length p (k .within)))
+        ∙ ap (flatMap threeBytes) (take-all p cs h)
+
+-- The first p places hold what the bytes spell.
+pub record Unpacked (bs : List ℕ) (old out : List ℤ) (p : ℕ) : Type 0 where
+  pub within : p ≤ length old
+  pub unpacked : out ≡ filled (map (coefficientFrom bs) (upFrom 0 p)) old
+
+module _ (bs : List ℕ) (old : List ℤ) where
+  pub unpacked-none : Unpacked bs old old 0
+  unfolding upFrom
+  unpacked-none = record { within = omega arith; unpacked = refl }
+
+  up-snoc : (p : ℕ) → map (coefficientFrom bs) (upFrom 0 (p + 1))
+      ≡ map (coefficientFrom bs) (upFrom 0 p) ++ (coefficientFrom bs p ∷ [])
+  unfolding upFrom
+  up-snoc p =
+      ap (map (coefficientFrom bs)) (up-append 0 p 1)
+      ∙ map-append (coefficientFrom bs) (upFrom 0 p) (upFrom (0 + p) 1)
+      ∙ ap (λ (q : ℕ). map (coefficientFrom bs) (upFrom 0 p) ++ (coefficientFrom bs q ∷ [])) (zero-add p)
+
+  module _ (out : List ℤ) (p : ℕ) (k : Unpacked bs old out p) where
+    abbrev before : List ℤ
+    before = map (coefficientFrom bs) (upFrom 0 p)
+
+    abbrev before-length : length before ≡ p
+    before-length = map-up-length (coefficientFrom bs) 0 p
+
+    pub unpacked-length : length out ≡ length old
+    unpacked-length = rw (k .unpacked) (filled-length before old (omega (arith, k .within, before-length)))
+
+    pub unpacked-more : (z : ℤ) → p < length old → z ≡ coefficientFrom bs p → Unpacked bs old (set out p z) (p + 1)
+    unpacked-more z h e =
+        record {
+          within = omega arith;
+          unpacked =
+              rw (k .unpacked, e, up-snoc p) (filled-set before old (coefficientFrom bs p) (pos 0) p before-length h);
+        }
+
+    pub unpacked-all : length old ≤ p → length old ≡ length bs / 3 → out ≡ unpacked bs
+    unfolding unpacked
+    unpacked-all h size =
+        let e : p ≡ length bs / 3 = omega (arith, k .within) in
+        k .unpacked
+        ∙ filled-all before old (omega (arith, before-length))
+        ∙ ap (λ (c : ℕ). map (coefficientFrom bs) (upFrom 0 c)) e

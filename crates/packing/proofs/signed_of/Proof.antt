@@ -1,0 +1,30 @@
+-- `signed_of` takes 2^24 away from what is at least half of it. Assumes nothing.
+use mathlib.Core.Path.{_∙_}
+use native.Mathlib.Omega.{arith}
+use borrow.Author.Needs.{needs}
+use mir.Syntax.{w32}
+use mir.Facts.{toZ-ofZ, toZ-pos}
+use Rattle.signed.proofs.Rules.{signed}
+use Rattle.packing.proofs.Threes.{signed-below, signed-above}
+use Rattle.packing.proofs.signed_of.Statement.{statement}
+use Rattle.packing.proofs.signed_of.Tie as tie
+
+cast-result : tie.Need-cast-result
+cast-result c = search needs
+
+cast-result-2 : tie.Need-cast-result-2
+cast-result-2 c = search needs
+
+sub-result : tie.Need-sub-result
+sub-result c = let e = toZ-pos w32 {n = c .before .args .x} (omega arith) in omega signed
+
+returns : tie.Need-returns
+returns c = toZ-pos w32 (omega arith) ∙ signed-below (c .before .args .x) (omega arith)
+
+returns-2 : tie.Need-returns-2
+returns-2 c =
+    let e = toZ-pos w32 {n = c .before .args .x} (omega arith) in
+    rw (toZ-ofZ (sub-result c), e) (signed-above (c .before .args .x) (omega arith))
+
+pub signed-of-spec : {M : Type 1} → statement M
+signed-of-spec = tie.close (tie.spec cast-result cast-result-2 sub-result returns returns-2)

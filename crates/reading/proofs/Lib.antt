@@ -1,0 +1,4 @@
+-- What the proofs of reading rest on, in reading order.
+pub mod Examining
+pub mod ReadingParts
+pub mod ReadingRecords

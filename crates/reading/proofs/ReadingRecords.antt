@@ -1,0 +1,132 @@
+-- Reading a record is reading its parts once it is opened: they are the table that its bytes state. Assumes nothing.
+use mathlib.Core.Path.{_≡_, refl, sym, ap, ap₂, _∙_}
+use mathlib.Core.List.{List}
+use Prim.Native.Nat.{ℕ, _+_, _-_, _*_, _/_, _≤_, _<_}
+use native.Mathlib.Omega.{arith}
+use lib.IntN.{ℤ, pos}
+use lib.ListN.{length, take, drop, length-drop}
+use lib.Seq.{length-take-le, take-take, take-add, drop-at, drop-drop, ext-getD}
+use Rattle.words.specs.declared.Refusal.{Refusal}
+use Rattle.words.specs.declared.Opening.{Opening}
+use Rattle.words.specs.declared.Unpacking.{Unpacking}
+use Rattle.om3.specs.Series.{P}
+use Rattle.om3.specs.Table.{lent}
+use Rattle.om3.specs.Checks.{Check, passes, refuses, inOrder}
+use Rattle.om3.specs.Calls.{writtenBy}
+use Rattle.om3.specs.Record.{signedFrom, bytesAt, headerSize, hoursIn, coefficientIn, tableIn}
+use Rattle.om3.specs.Record.{openingChecks, readingChecks, unpackingBy, openedBy, openedRecord}
+use Rattle.om3.proofs.Lists.{map-up-length}
+use Rattle.om3.proofs.Making.{good-some}
+use Rattle.om3.proofs.RecordsOpened.{opens-formed, asked-unpacked}
+use Rattle.packing.specs.Packing.{coefficientFrom, unpacked}
+use Rattle.reading.specs.Reading.{PackedTable, partsChecks, PartsRead, RecordRead}
+use Rattle.reading.proofs.Examining.{unpacked-length, unpacked-at}
+
+-- A part of the first b bytes is that part of all of them.
+part-within : (l : List ℕ) (p w b : ℕ) → p + w ≤ b → b ≤ length l → bytesAt (take b l) p w ≡ bytesAt l p w
+part-within l p w b h room =
+    let m = b - p in
+    let e : b ≡ p + m = omega arith in
+    let first = length-take-le p l (omega arith) in
+    rw (e, take-add p m l, drop-at (take p l) (take m (drop p l)) p first) (take-take w m (drop p l) (omega arith))
+
+module _ (r : List ℕ) where
+  -- The record is opened: it has n hours and p places.
+  pub record Opened (n p : ℕ) : Type 0 where
+    pub opens : openingChecks r ≡ passes
+    pub hours : n ≡ hoursIn r
+    pub places : p ≡ P (hoursIn r)
+
+  pub opened : (n p : ℕ) → Opening.Record n p ≡ openedRecord r → Opened n p
+  unfolding openedRecord
+  opened n p e = by (openingChecks r) refl e
+    where
+      by : (c : Check) → openingChecks r ≡ c → Opening.Record n p ≡ openedBy c r → Opened n p
+      by passes o h = record { opens = o; hours = cc; places = cc }
+      by (refuses why) o h = let z : _≡_ {A = ℕ} 0 1 = cc in absurd (omega arith)
+
+  pub refused-read : (why : Refusal) → Opening.Refused why ≡ openedRecord r → (cs : List ℤ) (ks : List ℕ)
+      → RecordRead r cs ks cs ks (Unpacking.Refused why)
+  unfolding openedRecord inOrder
+  refused-read why e cs ks = by (openingChecks r) refl e
+    where
+      by : (c : Check) → openingChecks r ≡ c → Opening.Refused why ≡ openedBy c r
+          → RecordRead r cs ks cs ks (Unpacking.Refused why)
+      by passes o h = let z : _≡_ {A = ℕ} 0 1 = cc in absurd (omega arith)
+      by (refuses other) o h =
+          let same : why ≡ other = cc in
+          record { answer = rw (o, same); coefficients = rw o; codes = rw o }
+
+  module _ (n p : ℕ) (o : Opened n p) where
+    abbrev after : ℕ
+    after = headerSize + 3 * p
+
+    -- The bytes of the coefficients, and the codes.
+    abbrev packed : List ℕ
+    packed = take (after - headerSize) (drop headerSize r)
+
+    abbrev codes : List ℕ
+    codes = take (length r - after) (drop after r)
+
+    pub record-length : length r ≡ after + p / 2
+    record-length = rw (o .places) (omega (arith, opens-formed r (o .opens) .sized))
+
+    packed-room : after - headerSize ≤ length (drop headerSize r)
+    packed-room = omega (arith, length-drop headerSize r, record-length)
+
+    packed-length : length packed ≡ 3 * p
+    packed-length = length-take-le (after - headerSize) (drop headerSize r) packed-room ∙ omega arith
+
+    codes-length : length codes ≡ p / 2
+    codes-length =
+        length-take-le (length r - after) (drop after r) (omega (arith, length-drop after r))
+        ∙ omega (arith, record-length)
+
+    pub packed-table : PackedTable n packed codes
+    packed-table =
+        let same : p ≡ P n = o .places ∙ sym (ap P (o .hours)) in
+        record {
+          most = rw (o .hours) (good-some _ (opens-formed r (o .opens) .timed) .1);
+          coefficients = packed-length ∙ ap (λ (k : ℕ). 3 * k) same;
+          codes = codes-length ∙ ap (λ (k : ℕ). k / 2) same;
+        }
+
+    -- What the parts hold is the table that the bytes state.
+    coefficient-same : (i : ℕ) → i < p → coefficientFrom packed i ≡ coefficientIn r i
+    coefficient-same i h =
+        ap signedFrom
+        (part-within (drop headerSize r) (3 * i) 3 (after - headerSize) (omega arith) packed-room
+        ∙ ap (take 3) (drop-drop (3 * i) headerSize r))
+
+    coefficients-in : unpacked packed ≡ tableIn r .coefficients
+    unfolding tableIn
+    coefficients-in =
+        let size : length (unpacked packed) ≡ p = unpacked-length packed ∙ omega (arith, packed-length) in
+        ext-getD (pos 0) (unpacked packed) (tableIn r .coefficients)
+        (size ∙ o .places ∙ sym (map-up-length (coefficientIn r) 0 (P (hoursIn r))))
+        (λ i h.
+        let h′ : i < p = omega (arith, size, h) in
+        unpacked-at packed i (omega (arith, packed-length)) ∙ coefficient-same i h′
+        ∙ asked-unpacked r i (rw (o .places) at h′))
+
+    codes-in : codes ≡ tableIn r .codes
+    unfolding tableIn
+    codes-in =
+        let w : length r - after ≡ p / 2 = omega (arith, record-length) in
+        rw (w, o .places)
+
+    -- So the checks that are left are those of the parts.
+    module _ (cs : List ℤ) (ks : List ℕ) where
+      checks-left : partsChecks n packed codes cs ks ≡ readingChecks r (lent cs ks)
+      unfolding inOrder
+      checks-left = rw (o .opens, coefficients-in, codes-in, o .hours)
+
+      pub parts-read : {cs′ : List ℤ} {ks′ : List ℕ} {u : Unpacking} → PartsRead n packed codes cs ks cs′ ks′ u
+          → RecordRead r cs ks cs′ ks′ u
+      parts-read x =
+          record {
+            answer = x .answer ∙ ap₂ unpackingBy checks-left (o .hours);
+            coefficients =
+                x .coefficients ∙ ap₂ (λ (c : Check) (new : List ℤ). writtenBy c new cs) checks-left coefficients-in;
+            codes = x .codes ∙ ap₂ (λ (c : Check) (new : List ℕ). writtenBy c new ks) checks-left codes-in;
+          }

@@ -1,0 +1,130 @@
+// Reading a house record into a table. The table is examined where it stands in the record's bytes, so that nothing is
+// written before it is known to be sound.
+use node::Halves;
+use node::Root;
+use turning::Verdict;
+use words::NodeId;
+use words::Opening;
+use words::Range;
+use words::Refusal;
+use words::Timestamp;
+use words::Unpacking;
+ghost use mathlib.Core.Path.{_≡_};
+ghost use Prim.Native.Nat.{_+_, _*_, _/_, _≤_};
+ghost use lib.ListN.{length};
+ghost use Rattle.om3.specs.Ranges.{Readings};
+ghost use Rattle.om3.specs.Table.{lent};
+ghost use Rattle.om3.specs.Refusals.{examineTable};
+ghost use Rattle.turning.specs.Turning.{checkOf, Examined};
+ghost use Rattle.packing.specs.Packing.{unpacked};
+ghost use Rattle.reading.specs.Reading.{PackedTable, PartsRead, RecordRead};
+
+// Examines node i of packed coefficients, which covers `hours` hours from t on and has this range, and then all nodes
+// below it: each before its halves, left before right. [forms 8]
+fn examine_below(
+    n: usize,
+    packed: &[u8],
+    codes: &[u8],
+    i: NodeId,
+    t: Timestamp,
+    hours: usize,
+    range: Range,
+) -> Verdict
+    requires { ⌜ 2 ≤ hours ⌝ }
+    requires { ⌜ Readings range ⌝ }
+    requires { ⌜ (i .0 + 1) * (hours / 2) ≤ length (now packed) / 3 ⌝ }
+    requires { ⌜ t .0 + hours ≤ 2 * length (now codes) ⌝ }
+    ensures { λ r. ⌜ Examined n (unpacked (now (packed .entry))) (now (codes .entry)) i (t .0) hours range r ⌝ }
+{
+    let at = t.0;
+    if hours < 4 {
+        return turning::examine_pair(n, codes, i, t, range);
+    }
+    // The details of a node stand at the numbers of its halves.
+    let left_number = 2 * i.0;
+    let right_number = left_number + 1;
+    let low_detail = packing::coefficient_at(packed, left_number);
+    let high_detail = packing::coefficient_at(packed, right_number);
+    let halves = node::half_ranges(range, low_detail, high_detail);
+    let Halves::Sound { left, right } = halves else {
+        return Verdict::Unsound(i);
+    };
+    let half = hours / 2;
+    let first = examine_below(
+        n,
+        packed,
+        codes,
+        NodeId(left_number),
+        Timestamp(at),
+        half,
+        left,
+    );
+    if let Verdict::Unsound(k) = first {
+        return Verdict::Unsound(k);
+    }
+    examine_below(
+        n,
+        packed,
+        codes,
+        NodeId(right_number),
+        Timestamp(at + half),
+        half,
+        right,
+    )
+}
+
+// Examines a whole table of n hours, of which there are not too many, in its packed coefficients and its codes.
+fn examine(n: usize, packed: &[u8], codes: &[u8]) -> Verdict
+    requires { ⌜ PackedTable n (now packed) (now codes) ⌝ }
+    ensures { λ r. ⌜ checkOf r ≡ examineTable n (lent (unpacked (now (packed .entry))) (now (codes .entry))) ⌝ }
+{
+    let low = packing::coefficient_at(packed, 0);
+    let high = packing::coefficient_at(packed, 1);
+    let Root::Sound(range) = node::root_range(low, high) else {
+        return Verdict::Unsound(NodeId(0));
+    };
+    let places = sizes::places(n);
+    examine_below(n, packed, codes, NodeId(1), Timestamp(0), places, range)
+}
+
+// Reads an opened record of n hours, its packed coefficients and its codes, into the first places of the buffers.
+fn read_parts(
+    n: usize,
+    packed: &[u8],
+    codes_in: &[u8],
+    coefficients: &mut [i32],
+    codes: &mut [u8],
+) -> Unpacking
+    requires { ⌜ PackedTable n (now packed) (now codes_in) ⌝ }
+    ensures { λ r. ⌜ PartsRead n (now (packed .entry)) (now (codes_in .entry))
+        (now (coefficients .entry)) (now (codes .entry)) (now (coefficients .exit)) (now (codes .exit)) r ⌝ }
+{
+    let places = packed.len() / 3;
+    if coefficients.len() < places {
+        return Unpacking::Refused(Refusal::ShortBuffer);
+    }
+    if codes.len() < codes_in.len() {
+        return Unpacking::Refused(Refusal::ShortBuffer);
+    }
+    if let Verdict::Unsound(i) = examine(n, packed, codes_in) {
+        return Unpacking::Refused(Refusal::Unsound(i));
+    }
+    packing::unpack(packed, &mut coefficients[..places]);
+    bytes::copy(codes_in, codes);
+    Unpacking::Hours(n)
+}
+
+// Reads a record: the table it holds, and the hours of its series. Refusals of opening, then 3, 4; on a refusal nothing
+// is written.
+pub fn read_record(bytes: &[u8], coefficients: &mut [i32], codes: &mut [u8]) -> Unpacking
+    ensures { λ r. ⌜ RecordRead (now (bytes .entry))
+        (now (coefficients .entry)) (now (codes .entry)) (now (coefficients .exit)) (now (codes .exit)) r ⌝ }
+{
+    match opening::open_record(bytes) {
+        Opening::Record { hours, places } => {
+            let at = words::HEADER_SIZE + 3 * places;
+            read_parts(hours, &bytes[7..at], &bytes[at..], coefficients, codes)
+        }
+        Opening::Refused(why) => Unpacking::Refused(why),
+    }
+}

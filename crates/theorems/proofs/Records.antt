@@ -1,0 +1,208 @@
+-- Demand 2 for the calls of the record: what their contracts say of a record that is read, of one that was written, and
+-- of single coefficients. Assumes nothing.
+use mathlib.Core.Path.{_≡_, refl, sym, ap, _∙_}
+use mathlib.Core.Bool.{false, _||_}
+use mathlib.Core.List.{List}
+use mathlib.Core.Logic.{_↔_}
+use Prim.Native.Nat.{ℕ, _+_, _*_, _/_, _≤_, _<_}
+use native.Mathlib.Omega.{arith}
+use lib.IntN.{ℤ, pos}
+use lib.ListN.{length, getD, take, List·getD-append}
+use borrow.Author.Tests.{lt-leb, le-ltb}
+use Rattle.words.specs.Constants.{largestHours}
+use Rattle.words.specs.declared.Refusal.the-variants.{ShortBuffer}
+use Rattle.words.specs.declared.Writing.{Writing}
+use Rattle.words.specs.declared.Unpacking.{Unpacking}
+use Rattle.words.specs.declared.Asking.{Asking}
+use Rattle.om3.specs.Series.{Series, levels, P}
+use Rattle.om3.specs.Table.{Table, coefficient, codeOfPlace, tableOf, HasTable, lent}
+use Rattle.om3.specs.Checks.{Check, passes, refuses, inOrder}
+use Rattle.om3.specs.Refusals.{short, tableShort, checkHours, checkRoom, examineTable}
+use Rattle.om3.specs.Calls.{filled}
+use Rattle.om3.specs.Record.{Bytes, recordSize, recordOf, HasRecord, headerSize, hoursIn, tableIn}
+use Rattle.om3.specs.Record.{writingChecks, writingBy, openingChecks, readingChecks, unpackingBy, askedView}
+use Rattle.om3.proofs.Lists.{map-up-length}
+use Rattle.om3.proofs.Making.{hours-some}
+use Rattle.om3.proofs.Tests.{neither}
+use Rattle.om3.proofs.Examined.{examine-sound, then-first, then-second, refuse-not}
+use Rattle.om3.proofs.Filled.{filled-first, filled-room}
+use Rattle.om3.proofs.Records.{record-size}
+use Rattle.om3.proofs.RecordsOpened.{order-parts, opens-formed, asked-unpacked}
+use Rattle.om3.proofs.RecordsTaken.{writing-decided, opened-room, table-record, made-read}
+use Rattle.om3.proofs.RecordsTaken.{reading-exactly, record-hours, record-table}
+use Rattle.om3.proofs.Demand2 as demand2
+use Rattle.writing.specs.Writing.{RecordWritten}
+use Rattle.reading.specs.Reading.{RecordRead}
+
+-- A call that answers is one whose checks passed.
+written-passes : (c : Check) (n b : ℕ) → Writing.Bytes b ≡ writingBy c n → (c ≡ passes) × (b ≡ recordSize n)
+written-passes passes n b e = (refl, cc)
+written-passes (refuses why) n b e = (cc, cc)
+
+read-passes : (c : Check) (n m : ℕ) → Unpacking.Hours m ≡ unpackingBy c n → (c ≡ passes) × (m ≡ n)
+read-passes passes n m e = (refl, cc)
+read-passes (refuses why) n m e = (cc, cc)
+
+-- Reading, with room lent.
+module _ (r : List ℕ) (bytes : Bytes r) (cs : List ℤ) (ks : List ℕ)
+    (room : tableShort (hoursIn r) (lent cs ks) ≡ false) (cs′ : List ℤ) (ks′ : List ℕ) (u : Unpacking)
+    (done : RecordRead r cs ks cs′ ks′ u) where
+  -- A record is taken exactly if some series of the hours that it states has it ..
+  pub read-exactly : (u ≡ Unpacking.Hours (hoursIn r))
+      ↔ ((s : List ℤ) × Series (hoursIn r) s × HasRecord (hoursIn r) s r)
+  read-exactly =
+      let exactly = reading-exactly r bytes (lent cs ks) room in (
+        λ e. exactly .0 (read-passes (readingChecks r (lent cs ks)) (hoursIn r) (hoursIn r) (sym e ∙ done .answer) .0),
+        λ h. rw (exactly .1 h) at (done .answer),
+      )
+
+  -- .. and the table of that series is then written, and nothing after it.
+  pub read-writes : (s : List ℤ) → Series (hoursIn r) s → HasRecord (hoursIn r) s r
+      → (cs′ ≡ filled (tableOf (levels (hoursIn r)) (hoursIn r) s .coefficients) cs)
+      × (ks′ ≡ filled (tableOf (levels (hoursIn r)) (hoursIn r) s .codes) ks)
+  read-writes s series has =
+      let ok = reading-exactly r bytes (lent cs ks) room .1 (s, series, has) in
+      let t = record-table (hoursIn r) r s series has in (
+        rw ok at (done .coefficients) ∙ ap (λ (x : Table). filled (x .coefficients) cs) t,
+        rw ok at (done .codes) ∙ ap (λ (x : Table). filled (x .codes) ks) t,
+      )
+
+-- A table that was written: with its hours and its room in order it is sound, so some series has it.
+module _ (n : ℕ) (cs : List ℤ) (ks out out′ : List ℕ) (b : ℕ)
+    (done : RecordWritten n cs ks out out′ (Writing.Bytes b)) where
+  abbrev T : Table
+  T = lent cs ks
+
+  written-checks : (writingChecks n T (length out) ≡ passes) × (b ≡ recordSize n)
+  written-checks = written-passes (writingChecks n T (length out)) n b (done .answer)
+
+  hours-right : (1 ≤ n) × (n ≤ largestHours)
+  unfolding inOrder
+  hours-right = hours-some n (then-first (checkHours n) _ (written-checks .0))
+
+  room-right : tableShort n T ≡ false
+  unfolding inOrder
+  room-right =
+      let isShort = tableShort n T || short (length out) (recordSize n) in
+      let rest = then-second (checkHours n) _ (written-checks .0) in
+      let enough = refuse-not isShort ShortBuffer (then-first (checkRoom isShort) _ rest) in
+      neither (tableShort n T) (short (length out) (recordSize n)) enough .0
+
+  some-series : (s : List ℤ) × Series n s × HasTable n s T
+  unfolding inOrder
+  some-series =
+      let three = checkRoom (tableShort n T || short (length out) (recordSize n)) in
+      let rest = then-second three _ (then-second (checkHours n) _ (written-checks .0)) in
+      let sound = examine-sound (levels n) n T .0 (then-first (examineTable n T) _ rest) in
+      demand2.sound-exactly n (hours-right .0) (hours-right .1) T room-right .0 sound
+
+  -- The bytes written are its record.
+  pub written-record : take b out′ ≡ recordOf n T
+  written-record =
+      let size = record-size n T room-right ∙ sym (written-checks .1) in
+      ap (take b) (rw (written-checks .0) at (done .bytes)) ∙ filled-first (recordOf n T) out b size
+
+  -- Reading them gives the same table and n.
+  pub read-after-write : (cs₁ : List ℤ) (ks₁ : List ℕ) → tableShort n (lent cs₁ ks₁) ≡ false
+      → (cs₂ : List ℤ) (ks₂ : List ℕ) (u : Unpacking) → RecordRead (take b out′) cs₁ ks₁ cs₂ ks₂ u
+      → (u ≡ Unpacking.Hours n) × (cs₂ ≡ filled (take (P n) cs) cs₁) × (ks₂ ≡ filled (take (P n / 2) ks) ks₁)
+  read-after-write cs₁ ks₁ room cs₂ ks₂ u read =
+      let s = some-series .0 in
+      let series = some-series .1 in
+      let has = written-record ∙ table-record n s T (some-series .2) in
+      let ok = ap (λ (r : List ℕ). readingChecks r (lent cs₁ ks₁)) has ∙ made-read n s series (lent cs₁ ks₁) room in
+      let t = record-table n (take b out′) s series has in (
+        rw (ok, record-hours n (take b out′) s series has) at (read .answer),
+        rw ok at (read .coefficients)
+            ∙ ap (λ (x : Table). filled (x .coefficients) cs₁) t
+            ∙ ap (λ (x : List ℤ). filled x cs₁) (sym (some-series .2 .coefficients)),
+        rw ok at (read .codes)
+            ∙ ap (λ (x : Table). filled (x .codes) ks₁) t
+            ∙ ap (λ (x : List ℕ). filled x ks₁) (sym (some-series .2 .codes)),
+      )
+
+-- A record that was read.
+module _ (r : List ℕ) (bytes : Bytes r) (cs : List ℤ) (ks : List ℕ) (cs′ : List ℤ) (ks′ : List ℕ) (n : ℕ)
+    (done : RecordRead r cs ks cs′ ks′ (Unpacking.Hours n)) where
+  both : (readingChecks r (lent cs ks) ≡ passes) × (n ≡ hoursIn r)
+  both = read-passes (readingChecks r (lent cs ks)) (hoursIn r) n (done .answer)
+
+  abbrev read-checks : readingChecks r (lent cs ks) ≡ passes
+  read-checks = both .0
+
+  abbrev stated-hours : n ≡ hoursIn r
+  stated-hours = both .1
+
+  opens : openingChecks r ≡ passes
+  opens = order-parts (openingChecks r) _ read-checks .0
+
+  room-lent : tableShort (hoursIn r) (lent cs ks) ≡ false
+  room-lent =
+      let rest = order-parts (openingChecks r) _ read-checks .1 in
+      refuse-not (tableShort (hoursIn r) (lent cs ks)) ShortBuffer
+      (order-parts (checkRoom (tableShort (hoursIn r) (lent cs ks))) _ rest .0)
+
+  its-series : (s : List ℤ) × Series (hoursIn r) s × HasRecord (hoursIn r) s r
+  its-series = reading-exactly r bytes (lent cs ks) room-lent .0 read-checks
+
+  left-room : tableShort (hoursIn r) (lent cs′ ks′) ≡ false
+  left-room =
+      let k = hoursIn r in
+      let t = tableIn r in
+      let room = opened-room r opens in
+      let a = rw (sym (rw read-checks at (done .coefficients))) at (filled-room (t .coefficients) cs _ refl) in
+      let b = rw (sym (rw read-checks at (done .codes))) at (filled-room (t .codes) ks _ refl) in
+      let wide : P k ≤ length cs′ = omega (arith, a, demand2.coefficients-there k t room) in
+      let long : P k / 2 ≤ length ks′ = omega (arith, b, demand2.codes-there k t room) in
+      rw (le-ltb (length cs′) (P k) wide, le-ltb (length ks′) (P k / 2) long)
+
+  -- The table that reading left has that series too ..
+  left-table : (s : List ℤ) → Series (hoursIn r) s → HasRecord (hoursIn r) s r → HasTable (hoursIn r) s (lent cs′ ks′)
+  left-table s series has =
+      let k = hoursIn r in
+      let left = read-writes r bytes cs ks room-lent cs′ ks′ (Unpacking.Hours n) done s series has in
+      let p = map-up-length (coefficient (levels k) k s) 0 (P k) in
+      let q = map-up-length (codeOfPlace (levels k) k s) 0 (P k / 2) in
+      record {
+        coefficients = ap (take (P k)) (left .0) ∙ filled-first (tableOf (levels k) k s .coefficients) cs (P k) p;
+        codes = ap (take (P k / 2)) (left .1) ∙ filled-first (tableOf (levels k) k s .codes) ks (P k / 2) q;
+      }
+
+  -- .. so writing it is taken.
+  write-checks : (out : List ℕ) → length r ≤ length out
+      → writingChecks (hoursIn r) (lent cs′ ks′) (length out) ≡ passes
+  write-checks out fits =
+      let k = hoursIn r in
+      let s = its-series .0 in
+      let sound = demand2.has-sound k s (lent cs′ ks′) (its-series .1) (left-table s (its-series .1) (its-series .2)) in
+      let size = opens-formed r opens .sized in
+      let long = le-ltb (length out) (recordSize k) (omega arith) in
+      writing-decided k (opens-formed r opens .timed) (lent cs′ ks′) (length out) (rw (left-room, long))
+      ∙ examine-sound (levels k) k (lent cs′ ks′) .1 sound
+
+  -- Written again from the table that reading left, it is the same record: one table has one record.
+  pub write-after-read : (out out′ : List ℕ) (w : Writing) → length r ≤ length out → RecordWritten n cs′ ks′ out out′ w
+      → (w ≡ Writing.Bytes (length r)) × (out′ ≡ filled r out)
+  write-after-read out out′ w fits written =
+      let k = hoursIn r in
+      let s = its-series .0 in
+      let series = its-series .1 in
+      let has = left-table s series (its-series .2) in
+      let size = opens-formed r opens .sized in
+      let again = table-record k s (lent cs′ ks′) has ∙ sym (its-series .2) in
+      let ok = write-checks out fits in
+      (rw (stated-hours, ok, ← size) at (written .answer), rw (stated-hours, ok, again) at (written .bytes))
+
+  -- A coefficient asked for is the one that was unpacked.
+  pub asked-read : (p : ℕ) → p < P n → askedView r (P n) p ≡ Asking.Coefficient (getD cs′ p (pos 0))
+  unfolding askedView inOrder
+  asked-read p h =
+      let h′ : p < P (hoursIn r) = rw (← stated-hours) h in
+      let size = opens-formed r opens .sized in
+      let reached : headerSize + 3 * p + 3 ≤ length r = omega (arith, size) in
+      let there : p < length (tableIn r .coefficients) =
+      omega (arith, demand2.coefficients-there (hoursIn r) (tableIn r) (opened-room r opens)) in
+      let e = rw read-checks at (done .coefficients) in
+      rw (stated-hours, lt-leb (P (hoursIn r)) p h′, le-ltb (length r) (headerSize + 3 * p + 3) reached, e)
+      (ap Asking.Coefficient
+      (asked-unpacked r p h′ ∙ sym (List·getD-append (tableIn r .coefficients) _ (pos 0) p there)))

@@ -1,0 +1,3 @@
+-- The parts of a record put one after the other, and each answer of writing.
+pub mod Put
+pub mod Written
