@@ -50,6 +50,13 @@ module _ {l : ℕ} {v : Node} {i f w : ℕ} (at : Located l v i f w) where
       (λ p. omega arith)
       (below-or-not (suc (v .level)) l)
 
+  pub pair-width : 2 ≤ w → w < 4 → w ≡ 2
+  unfolding width
+  pair-width two four =
+      let z : l - v .level ≡ 1 = let p = at-pair two four in omega arith in
+      let y : 2 ^ (l - v .level) ≡ 2 = rw z in
+      omega (arith, at .covers)
+
   module _ (h : 2 ≤ w) where
     abbrev b : v .level < l
     b = above-hours h

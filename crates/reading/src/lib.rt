@@ -49,7 +49,11 @@ fn examine_below(
     let Halves::Sound { left, right } = halves else {
         return Verdict::Unsound(i);
     };
+    if hours < 8 {
+        return turning::examine_pairs(n, codes, NodeId(left_number), t, left, right);
+    }
     let half = hours / 2;
+    let middle = at + half;
     let first = examine_below(
         n,
         packed,
@@ -67,7 +71,7 @@ fn examine_below(
         packed,
         codes,
         NodeId(right_number),
-        Timestamp(at + half),
+        Timestamp(middle),
         half,
         right,
     )

@@ -12,6 +12,11 @@ ghost use Rattle.sagivelume.specs.Boundary.{toldOf, placesOf, MakeTold, 
 ghost use Rattle.sagivelume.specs.Boundary.{writingTold, unpackingTold, openingTold, askingTold};
 ghost use Rattle.sagivelume.specs.Boundary.{WriteTold, ReadTold};
 
+// What stands for the refusal's number and place where a call is taken.
+const TAKEN: usize = 0;
+
+const NO_PLACE: usize = 0;
+
 // A call's answer: the refusal's number, 0 where the call is taken, and its place.
 #[repr(C)]
 pub struct Told {
@@ -64,8 +69,8 @@ fn told_of(t: Taking) -> Told
 {
     match t {
         Taking::Taken => Told {
-            number: 0,
-            place: 0,
+            number: TAKEN,
+            place: NO_PLACE,
         },
         Taking::Refused(why) => Told {
             number: words::number_of(why),
@@ -79,8 +84,8 @@ fn told_writing(w: Writing) -> ToldBytes
 {
     match w {
         Writing::Bytes(bytes) => ToldBytes {
-            number: 0,
-            place: 0,
+            number: TAKEN,
+            place: NO_PLACE,
             bytes,
         },
         Writing::Refused(why) => ToldBytes {
@@ -96,8 +101,8 @@ fn told_unpacking(u: Unpacking) -> ToldHours
 {
     match u {
         Unpacking::Hours(hours) => ToldHours {
-            number: 0,
-            place: 0,
+            number: TAKEN,
+            place: NO_PLACE,
             hours,
         },
         Unpacking::Refused(why) => ToldHours {
@@ -113,8 +118,8 @@ fn told_opening(o: Opening) -> ToldRecord
 {
     match o {
         Opening::Record { hours, places } => ToldRecord {
-            number: 0,
-            place: 0,
+            number: TAKEN,
+            place: NO_PLACE,
             hours,
             places,
         },
@@ -132,8 +137,8 @@ fn told_asking(a: Asking) -> ToldCoefficient
 {
     match a {
         Asking::Coefficient(coefficient) => ToldCoefficient {
-            number: 0,
-            place: 0,
+            number: TAKEN,
+            place: NO_PLACE,
             coefficient,
         },
         Asking::Refused(why) => ToldCoefficient {

@@ -1,6 +1,6 @@
 -- What the examination below a node promises, at a pair and at a node of two halves, for each of its answers. Assumes
 -- nothing.
-use mathlib.Core.Path.{_≡_, sym, ap, _∙_}
+use mathlib.Core.Path.{_≡_, refl, sym, ap, _∙_}
 use mathlib.Core.Bool.{Bool, true, false, _&&_}
 use mathlib.Core.List.{List, map, map-append}
 use Prim.Native.Nat.{ℕ, suc, _+_, _-_, _*_, _/_, _^_, _≤_, _<_}
@@ -17,14 +17,14 @@ use Rattle.om3.specs.Down.{leftHalf, rightHalf, firstOfPair, secondOfPair, reac
 use Rattle.om3.specs.Checks.{Check, andThen, inOrder}
 use Rattle.om3.specs.Sound.{soundDetails, soundCode, gapFrom, soundNode, nodesBelow, examineNode}
 use Rattle.om3.proofs.Nodes.{pair-yes, pair-no, pair-half, start-hour}
-use Rattle.om3.proofs.Located.{above-hours, above-pairs, at-pair, left-located, right-located}
+use Rattle.om3.proofs.Located.{above-hours, above-pairs, at-pair, pair-width, left-located, right-located}
 use Rattle.om3.proofs.Reached.{reached-left, reached-right}
 use Rattle.om3.proofs.SoundDetails.{details}
 use Rattle.om3.proofs.Examined.{in-order-append, then-passes}
 use Rattle.node.specs.declared.Halves.{Halves}
 use Rattle.node.specs.Steps.{halvesOf, pairOf}
 use Rattle.turning.specs.declared.Verdict.{Verdict}
-use Rattle.turning.specs.Turning.{checkOf, examineNodes, Examined}
+use Rattle.turning.specs.Turning.{checkOf, examineNodes, Examined, PairExamined, PairsExamined}
 use Rattle.turning.proofs.Answers.{Stepped, stepped, not-stepped}
 
 -- The halves of a sound node that is not a pair are ranges of readings.
@@ -171,3 +171,53 @@ module _ (n : ℕ) (cs : List ℤ) (ks : List ℕ) (i : NodeId) (f w : ℕ) (ran
             below = λ l v at g.
                 R .below l (right v) (right-located at two) (right-reached l v at g) ∙ rw z at (halves-then l v at g);
           }
+
+    -- The halves are pairs.
+    module _ (eight : w < 8) (a b : Range) (h : halvesOf range d e ≡ Halves.Sound a b) where
+      abbrev leftPair : NodeId
+      leftPair = record { 0 = 2 * i .0 }
+
+      abbrev rightPair : NodeId
+      rightPair = record { 0 = 2 * i .0 + 1 }
+
+      right-pair : (q : Verdict) → PairExamined n ks rightPair (f + 2) b q
+          → Examined n cs ks rightPair (f + w / 2) (w / 2) b q
+      right-pair q E =
+          record {
+            below = λ l v at.
+                let half : w / 2 ≡ 2 = pair-width at (omega arith) (omega arith) in
+                E .pair cs 2 (omega arith) (omega arith) .below l v (rw half at at);
+          }
+
+      pub pairs-examined : (q : Verdict) → PairsExamined n ks leftPair f a b q → Examined n cs ks i f w range q
+      pairs-examined q E = by (E .found) (E .first .pair cs (w / 2) (omega arith) (omega arith)) (E .refused) (E .second)
+        where
+          by : (r : Verdict) → Examined n cs ks leftPair f (w / 2) a r
+              → ((k : NodeId) → r ≡ Verdict.Unsound k → q ≡ Verdict.Unsound k)
+              → (r ≡ Verdict.Sound → PairExamined n ks rightPair (f + 2) b q) → Examined n cs ks i f w range q
+          by Verdict.Sound L kept further = then-right a b h Verdict.Sound L refl q (right-pair q (further refl))
+          by (Verdict.Unsound k) L kept further = rw (kept k refl) (left-unsound a b h (Verdict.Unsound k) L k refl)
+
+-- The two answers of two neighbouring pairs.
+module _ (n : ℕ) (ks : List ℕ) (i : NodeId) (f : ℕ) (one two : Range) (r : Verdict) (E : PairExamined n ks i f one r) where
+  pub first-refused : (k : NodeId) → r ≡ Verdict.Unsound k → PairsExamined n ks i f one two (Verdict.Unsound k)
+  first-refused k z =
+      record {
+        found = r;
+        first = E;
+        refused = λ j y. sym z ∙ y;
+        second = λ y.
+            let clash : Verdict.Sound ≡ Verdict.Unsound k = sym y ∙ z in
+            let no : _≡_ {A = ℕ} 0 1 = cc in
+            absurd (omega arith);
+      }
+
+  pub second-examined : r ≡ Verdict.Sound → (q : Verdict) → PairExamined n ks (record { 0 = i .0 + 1 }) (f + 2) two q
+      → PairsExamined n ks i f one two q
+  second-examined z q S =
+      record {
+        found = r;
+        first = E;
+        refused = λ k y. let clash : Verdict.Sound ≡ Verdict.Unsound k = sym z ∙ y in cc;
+        second = λ y. S;
+      }

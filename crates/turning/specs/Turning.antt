@@ -3,14 +3,15 @@
 --   TableLent n cs ks     n is at most 16,384, and both buffers are long enough
 --   checkOf r             what a verdict says, as a check
 --   examineNodes          the examination of a list of nodes
---   Examined              the contract of the examination below a node; PairExamined, of a pair's
+--   Examined              the contract of the examination below a node; PairExamined, of a pair's; PairsExamined, of
+--                         two neighbouring pairs'
 --   withHours             a buffer with the hours below a node written
 --   Written               the contract of writing the hours below a node
 --   TurnedBack            the contract of `turn_back`: its answer, and the lent hours whole
 use mathlib.Core.Path.{_≡_}
 use mathlib.Core.Bool.{true}
 use mathlib.Core.List.{List, map}
-use Prim.Native.Nat.{ℕ, zero, suc, _-_, _/_, _≤_, _<_}
+use Prim.Native.Nat.{ℕ, zero, suc, _+_, _-_, _/_, _≤_, _<_}
 use lib.IntN.{ℤ}
 use lib.ListN.{length, set}
 use Rattle.words.specs.Constants.{largestHours}
@@ -53,6 +54,13 @@ pub record Examined (n : ℕ) (cs : List ℤ) (ks : List ℕ) (i : NodeId) (f w 
 -- A pair alone, whatever the coefficients are.
 pub record PairExamined (n : ℕ) (ks : List ℕ) (i : NodeId) (f : ℕ) (range : Range) (r : Verdict) : Type 0 where
   pub pair : (cs : List ℤ) (w : ℕ) → 2 ≤ w → w < 4 → Examined n cs ks i f w range r
+
+-- Two neighbouring pairs: what is found at the first, and at the second if the first is sound.
+pub record PairsExamined (n : ℕ) (ks : List ℕ) (i : NodeId) (f : ℕ) (one two : Range) (r : Verdict) : Type 0 where
+  pub found : Verdict
+  pub first : PairExamined n ks i f one found
+  pub refused : (k : NodeId) → found ≡ Verdict.Unsound k → r ≡ Verdict.Unsound k
+  pub second : found ≡ Verdict.Sound → PairExamined n ks (record { 0 = i .0 + 1 }) (f + 2) two r
 
 -- The hours out with those of the single hours below node v, h levels down, as the table t gives them.
 unfoldable pub withHours : (l : ℕ) → Table → ℕ → Node → List ℤ → List ℤ

@@ -1,0 +1,48 @@
+-- `examine_pairs` examines the first pair, and the second only if the first is sound. Assumes nothing.
+use mathlib.Core.Path.{_≡_, sym, _∙_}
+use borrow.Author.Needs.{needs}
+use Rattle.turning.proofs.Examining as laws
+use Rattle.turning.proofs.examine_pairs.Statement.{statement}
+use Rattle.turning.proofs.examine_pairs.Tie as tie
+
+examine-pair-requires : tie.Need-examine-pair-requires
+examine-pair-requires c κs = search needs
+
+enum-known-verdict : tie.Need-enum-known-verdict
+enum-known-verdict c = search needs
+
+returns : tie.Need-returns
+returns c =
+    let c3 = c .before .before .before in
+    laws.first-refused _ _ _ _ _ _ _ (c3 .examine-pair .ensures) _ (c .before .verdict .given .1)
+
+enum-told : tie.Need-enum-told
+enum-told c = search needs
+
+add-t11 : tie.Need-add-t11
+add-t11 c = search needs
+
+add-t13 : tie.Need-add-t13
+add-t13 c = search needs
+
+examine-pair-requires-2 : tie.Need-examine-pair-requires-2
+examine-pair-requires-2 c κs = search needs
+
+returns-2 : tie.Need-returns-2
+returns-2 c =
+    let c3 = c .before .before .before in
+    laws.second-examined _ _ _ _ _ _ _ (c3 .examine-pair .ensures) (c .before .enum-told .given .1) _
+    (c .examine-pair2 .ensures)
+
+pub examine-pairs-spec : {M : Type 1} → statement M
+examine-pairs-spec =
+    tie.close
+    (tie.spec
+    examine-pair-requires
+    enum-known-verdict
+    returns
+    enum-told
+    add-t11
+    add-t13
+    examine-pair-requires-2
+    returns-2)
