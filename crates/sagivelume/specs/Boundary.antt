@@ -3,8 +3,11 @@
 --
 --   toldOf t                          the number and the place of an answer, 0 at 0 where the call is taken
 --   placesOf s                        a stretch as the boundary answers it
---   writingTold w, unpackingTold u,   the same of the record's calls, with the fields of their answers, 0 on a
---   openingTold o, askingTold a       refusal
+--   bytesTold w, hoursTold u,         the values of the answers of the record's calls, 0 on a refusal
+--   openedHours o, openedPlaces o,
+--   coefficientTold a
+--   writingTold w, unpackingTold u,   these answers with their number, place and values
+--   openingTold o, askingTold a
 --   MakeTold, TurnBackTold,           the contracts of `sagivelume_make`, `sagivelume_turn_back`,
 --   WriteTold, ReadTold               `sagivelume_write_record` and `sagivelume_read_record`
 use mathlib.Core.Path.{_≡_}
@@ -12,7 +15,7 @@ use mathlib.Core.List.{List}
 use Prim.Native.Nat.{ℕ}
 use lib.IntN.{ℤ, pos}
 use lib.ListN.{length}
-use Rattle.words.specs.Said.{numberOf, placeOf, saidOfTaking}
+use Rattle.words.specs.Said.{saidOfTaking, saidOfWriting, saidOfUnpacking, saidOfOpening, saidOfAsking}
 use Rattle.words.specs.declared.Stretch.{Stretch}
 use Rattle.words.specs.declared.Taking.{Taking}
 use Rattle.words.specs.declared.Writing.{Writing}
@@ -40,21 +43,47 @@ toldOf t = record { number = saidOfTaking t .number; place = saidOfTaking t .pla
 abbrev pub placesOf : Stretch → Places
 placesOf s = record { start = s .from; length = s .size }
 
+-- The values of an answer as fields, 0 where the call is refused.
+abbrev pub bytesTold : Writing → ℕ
+bytesTold (Writing.Bytes b) = b
+bytesTold (Writing.Refused why) = 0
+
+abbrev pub hoursTold : Unpacking → ℕ
+hoursTold (Unpacking.Hours n) = n
+hoursTold (Unpacking.Refused why) = 0
+
+abbrev pub openedHours : Opening → ℕ
+openedHours (Opening.Record n p) = n
+openedHours (Opening.Refused why) = 0
+
+abbrev pub openedPlaces : Opening → ℕ
+openedPlaces (Opening.Record n p) = p
+openedPlaces (Opening.Refused why) = 0
+
+abbrev pub coefficientTold : Asking → ℤ
+coefficientTold (Asking.Coefficient z) = z
+coefficientTold (Asking.Refused why) = pos 0
+
 abbrev pub writingTold : Writing → ToldBytes
-writingTold (Writing.Bytes b) = record { number = 0; place = 0; bytes = b }
-writingTold (Writing.Refused why) = record { number = numberOf why; place = placeOf why; bytes = 0 }
+writingTold w = record { number = saidOfWriting w .number; place = saidOfWriting w .place; bytes = bytesTold w }
 
 abbrev pub unpackingTold : Unpacking → ToldHours
-unpackingTold (Unpacking.Hours n) = record { number = 0; place = 0; hours = n }
-unpackingTold (Unpacking.Refused why) = record { number = numberOf why; place = placeOf why; hours = 0 }
+unpackingTold u = record { number = saidOfUnpacking u .number; place = saidOfUnpacking u .place; hours = hoursTold u }
 
 abbrev pub openingTold : Opening → ToldRecord
-openingTold (Opening.Record n p) = record { number = 0; place = 0; hours = n; places = p }
-openingTold (Opening.Refused why) = record { number = numberOf why; place = placeOf why; hours = 0; places = 0 }
+openingTold o = record {
+  number = saidOfOpening o .number;
+  place = saidOfOpening o .place;
+  hours = openedHours o;
+  places = openedPlaces o;
+}
 
 abbrev pub askingTold : Asking → ToldCoefficient
-askingTold (Asking.Coefficient z) = record { number = 0; place = 0; coefficient = z }
-askingTold (Asking.Refused why) = record { number = numberOf why; place = placeOf why; coefficient = pos 0 }
+askingTold a = record {
+  number = saidOfAsking a .number;
+  place = saidOfAsking a .place;
+  coefficient = coefficientTold a;
+}
 
 pub record MakeTold (n : ℕ) (s cs : List ℤ) (ks : List ℕ) (cs′ : List ℤ) (ks′ : List ℕ) (r : Told) : Type 0 where
   pub made : Made n s cs ks cs′ ks′ (takingBy (makingChecks n s (lent cs ks)))
