@@ -1,7 +1,7 @@
 //! The store's calls in plain Rust, as one would write them first: the yardstick for the proved store's speed.
 //!
-//! The signatures, buffers, checks and refusals are those of the proved store. Nothing is allocated, each call goes
-//! down the nodes by calling itself on both halves, and nothing is tuned.
+//! The signatures, buffers, checks and refusals are those of the proved store. Each call goes down the nodes by calling
+//! itself on both halves. Only reading a record allocates, and nothing is tuned but that one function is inlined.
 
 mod record;
 
@@ -182,25 +182,14 @@ pub fn turn_back(n: usize, coefficients: &[i32], codes: &[u8], hours: &mut [i32]
     Ok(())
 }
 
-/// A lent table of P coefficients, wherever they stand, and P/2 codes.
-struct Table<'a, C> {
+/// A table of P coefficients and P/2 codes.
+struct Table<'a> {
     n: usize,
-    coefficients: C,
+    coefficients: &'a [i32],
     codes: &'a [u8],
 }
 
-/// Coefficients by their places.
-trait Coefficients {
-    fn at(&self, place: usize) -> i32;
-}
-
-impl Coefficients for &[i32] {
-    fn at(&self, place: usize) -> i32 {
-        self[place]
-    }
-}
-
-impl<C: Coefficients> Table<'_, C> {
+impl Table<'_> {
     /// Examines the whole table and gives the value of node 1.
     fn examine(&self) -> Result<Value, Refusal> {
         let root = self.root()?;
@@ -210,7 +199,7 @@ impl<C: Coefficients> Table<'_, C> {
 
     /// The value of node 1, or refusal 4 at 0 if the root values are unsound.
     fn root(&self) -> Result<Value, Refusal> {
-        let (low, high) = (self.coefficients.at(0), self.coefficients.at(1));
+        let (low, high) = (self.coefficients[0], self.coefficients[1]);
         if low == NEITHER && high == NEITHER {
             Ok(None)
         } else if is_reading(low) && is_reading(high) && low <= high {
@@ -266,9 +255,12 @@ impl<C: Coefficients> Table<'_, C> {
     }
 
     /// The values of both halves of a node that is not a pair, `None` if it is unsound.
+    // Not inlined unasked, since several functions share it, and the call at each node would make the yardstick slower
+    // than one would accept.
+    #[inline]
     fn go_down(&self, node: Node, value: Value) -> Option<(Value, Value)> {
         let place = 2 * node.number;
-        let details = (self.coefficients.at(place), self.coefficients.at(place + 1));
+        let details = (self.coefficients[place], self.coefficients[place + 1]);
         let Some(LowHigh { low, high }) = value else {
             return (details == (NEITHER, NEITHER)).then_some((None, None));
         };

@@ -3,7 +3,7 @@
 //! Big-endian. Four bytes: length of what follows, 3 + 3P + P/2. One byte: version 1. Two bytes: n. Then P coefficients
 //! of three bytes each in two's complement, and P/2 codes of one byte each.
 
-use crate::{needed_coefficients, Coefficients, Refusal, Table};
+use crate::{needed_coefficients, Refusal, Table};
 
 /// Bytes before the first coefficient.
 const HEADER: usize = 7;
@@ -71,17 +71,10 @@ fn coefficient_of(&[high, middle, low]: &[u8; 3]) -> i32 {
     i32::from_be_bytes([high, middle, low, 0]) >> 8
 }
 
-/// Coefficients as they stand in a record.
-impl Coefficients for &[[u8; 3]] {
-    fn at(&self, place: usize) -> i32 {
-        coefficient_of(&self[place])
-    }
-}
-
 /// Reads a record into a table and gives n. Refusals in the order 8, 9, 1, 10, 8, 11, 3, 4.
 ///
-/// A refused call writes nothing, so the table is examined straight from the bytes. To unpack it into a scratch vector,
-/// examine that and copy it was measured too and took longer.
+/// A refused call writes nothing, so the coefficients are unpacked into a scratch vector, examined there and then
+/// copied. To examine them straight from the bytes was measured too and took longer.
 pub fn read_record(bytes: &[u8], coefficients: &mut [i32], codes: &mut [u8]) -> Result<usize, Refusal> {
     let (n, p) = open(bytes)?;
     if coefficients.len() < p || codes.len() < p / 2 {
@@ -89,10 +82,9 @@ pub fn read_record(bytes: &[u8], coefficients: &mut [i32], codes: &mut [u8]) -> 
     }
     let (packed, packed_codes) = bytes[HEADER..].split_at(3 * p);
     let (packed, _) = packed.as_chunks();
-    Table { n, coefficients: packed, codes: packed_codes }.examine()?;
-    for (coefficient, three) in coefficients.iter_mut().zip(packed) {
-        *coefficient = coefficient_of(three);
-    }
+    let unpacked: Vec<i32> = packed.iter().map(coefficient_of).collect();
+    Table { n, coefficients: &unpacked, codes: packed_codes }.examine()?;
+    coefficients[..p].copy_from_slice(&unpacked);
     codes[..p / 2].copy_from_slice(packed_codes);
     Ok(n)
 }

@@ -9,11 +9,13 @@
 //! line ends it with 2.
 
 mod calls;
-mod generate;
 mod given;
 mod lent;
 mod line;
+mod numbers;
 mod records;
+mod series;
+mod tables;
 
 use std::process::ExitCode;
 

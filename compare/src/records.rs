@@ -5,7 +5,8 @@ use second::hours::GAP;
 use second::random::Random;
 use second::table::ONLY_LEFT;
 
-use crate::generate::{draw_held, draw_n, draw_table, Room, Table, EDGES_OF_N, EVERY_P};
+use crate::numbers::{draw_held, draw_n, Room, EDGES_OF_N, EVERY_P};
+use crate::tables::{draw_table, Table};
 
 /// Bytes before the first coefficient.
 pub const HEADER: usize = 7;

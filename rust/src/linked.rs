@@ -104,6 +104,12 @@ impl Places {
     }
 }
 
+// What every call must keep: each pointer comes with the length of its own live slice, and a slice to be written, which
+// passes as `*mut`, is lent to that call alone.
+//
+// What every call may rely on: the store touches nothing outside these slices, only reads, if at all, those that pass
+// as `*const`, and keeps no pointer. Rattle's references reach no further and end with the call, and its compiler is
+// trusted for it.
 extern "C" {
     fn sagivelume_make(
         n: usize,
@@ -153,9 +159,7 @@ extern "C" {
 
 /// Makes a table.
 pub fn make(n: usize, readings: &[i32], coefficients: &mut [i32], codes: &mut [u8]) -> Told {
-    // SAFETY: each pointer comes with the length of its own live slice, the slices written are lent to this call
-    // alone, and the store touches nothing outside them and keeps no pointer: Rattle's references reach no further and
-    // end with the call, and its compiler is trusted for it.
+    // SAFETY: as at the `extern` block: three live slices with their lengths, the last two lent to this call alone.
     unsafe {
         sagivelume_make(
             n,
@@ -171,9 +175,7 @@ pub fn make(n: usize, readings: &[i32], coefficients: &mut [i32], codes: &mut [u
 
 /// Turns a table back.
 pub fn turn_back(n: usize, coefficients: &[i32], codes: &[u8], hours: &mut [i32]) -> Told {
-    // SAFETY: each pointer comes with the length of its own live slice, the slice written is lent to this call
-    // alone, and the store touches nothing outside them and keeps no pointer: Rattle's references reach no further and
-    // end with the call, and its compiler is trusted for it.
+    // SAFETY: as at the `extern` block: three live slices with their lengths, the last lent to this call alone.
     unsafe {
         sagivelume_turn_back(
             n,
@@ -189,16 +191,13 @@ pub fn turn_back(n: usize, coefficients: &[i32], codes: &[u8], hours: &mut [i32]
 
 /// The details of one level.
 pub fn level(n: usize, j: usize, coefficients: &[i32]) -> Places {
-    // SAFETY: the pointer comes with the length of its own live slice, which the store only reads, if at all, and of
-    // which it keeps no pointer.
+    // SAFETY: as at the `extern` block: one live slice with its length, which is only read.
     unsafe { sagivelume_level(n, j, coefficients.as_ptr(), coefficients.len()) }
 }
 
 /// Writes a record.
 pub fn write_record(n: usize, coefficients: &[i32], codes: &[u8], bytes: &mut [u8]) -> ToldBytes {
-    // SAFETY: each pointer comes with the length of its own live slice, the slice written is lent to this call
-    // alone, and the store touches nothing outside them and keeps no pointer: Rattle's references reach no further and
-    // end with the call, and its compiler is trusted for it.
+    // SAFETY: as at the `extern` block: three live slices with their lengths, the last lent to this call alone.
     unsafe {
         sagivelume_write_record(
             n,
@@ -214,9 +213,7 @@ pub fn write_record(n: usize, coefficients: &[i32], codes: &[u8], bytes: &mut [u
 
 /// Reads a record.
 pub fn read_record(bytes: &[u8], coefficients: &mut [i32], codes: &mut [u8]) -> ToldHours {
-    // SAFETY: each pointer comes with the length of its own live slice, the slices written are lent to this call
-    // alone, and the store touches nothing outside them and keeps no pointer: Rattle's references reach no further and
-    // end with the call, and its compiler is trusted for it.
+    // SAFETY: as at the `extern` block: three live slices with their lengths, the last two lent to this call alone.
     unsafe {
         sagivelume_read_record(
             bytes.as_ptr(),
@@ -231,14 +228,12 @@ pub fn read_record(bytes: &[u8], coefficients: &mut [i32], codes: &mut [u8]) -> 
 
 /// Opens a record.
 pub fn open_record(bytes: &[u8]) -> ToldRecord {
-    // SAFETY: the pointer comes with the length of its own live slice, which the store only reads, if at all, and of
-    // which it keeps no pointer.
+    // SAFETY: as at the `extern` block: one live slice with its length, which is only read.
     unsafe { sagivelume_open_record(bytes.as_ptr(), bytes.len()) }
 }
 
 /// Asks a record of so many places for one coefficient.
 pub fn ask(bytes: &[u8], places: usize, place: usize) -> ToldCoefficient {
-    // SAFETY: the pointer comes with the length of its own live slice, which the store only reads, if at all, and of
-    // which it keeps no pointer.
+    // SAFETY: as at the `extern` block: one live slice with its length, which is only read.
     unsafe { sagivelume_ask(bytes.as_ptr(), bytes.len(), places, place) }
 }

@@ -10,8 +10,11 @@ use std::collections::BTreeMap;
 
 use crate::refusal::Refusal;
 
-pub mod records;
+mod made;
+
 pub mod tables;
+
+pub mod records;
 
 /// The greatest number that the programs read.
 pub const GREATEST_NUMBER: u64 = 9_999_999_999_999;

@@ -3,10 +3,10 @@
 use second::random::Random;
 
 use super::{outcome_of_record, Call};
-use crate::generate::Room;
 use crate::given::{Given, Head};
 use crate::lent::Lent;
 use crate::line::Line;
+use crate::numbers::Room;
 use crate::records::{draw_place, draw_record, edge_records, hours_stated};
 
 /// `ask place | record`

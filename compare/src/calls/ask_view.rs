@@ -3,10 +3,10 @@
 use second::random::Random;
 
 use super::{outcome_of_record, Call};
-use crate::generate::{draw_held, Room, EVERY_P};
 use crate::given::{Given, Head};
 use crate::lent::Lent;
 use crate::line::Line;
+use crate::numbers::{draw_held, Room, EVERY_P};
 use crate::records::{draw_place, draw_record, far_places, hours_stated, record_of_equal, HEADER};
 
 /// `ask_view places place | record`

@@ -3,10 +3,10 @@
 use second::random::Random;
 
 use super::Call;
-use crate::generate::{draw_held, draw_lent_length, draw_n, Room, EDGES_OF_N, EDGE_LENGTHS};
 use crate::given::{Given, Head};
 use crate::lent::Lent;
 use crate::line::Line;
+use crate::numbers::{draw_held, draw_lent_length, draw_n, Room, EDGES_OF_N, EDGE_LENGTHS};
 
 /// Levels that no series has, among them those at which a shift by them wraps.
 const NO_LEVELS: [usize; 9] = [15, 16, 31, 32, 33, 63, 64, 1 << 32, usize::MAX];

@@ -3,13 +3,11 @@
 use second::random::Random;
 
 use super::Call;
-use crate::generate::{
-    draw_held, draw_lent_length, draw_n, draw_series, edge_series, spoil, Room, EDGES_OF_N, EDGE_LENGTHS,
-    NO_READINGS,
-};
 use crate::given::{Given, Head};
 use crate::lent::Lent;
 use crate::line::Line;
+use crate::numbers::{draw_held, draw_lent_length, draw_n, Room, EDGES_OF_N, EDGE_LENGTHS};
+use crate::series::{draw_series, edge_series, spoil, NO_READINGS};
 
 /// `make n | readings | coefficients | codes`
 pub struct Make {

@@ -18,8 +18,8 @@ use std::panic::{catch_unwind, AssertUnwindSafe};
 use second::answer::answer;
 use second::random::Random;
 
-use crate::generate::Room;
 use crate::given::{Given, Head};
+use crate::numbers::Room;
 use crate::records::{hours_stated, HEADER};
 
 pub use ask::Ask;

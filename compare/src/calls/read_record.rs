@@ -3,13 +3,13 @@
 use second::random::Random;
 
 use super::{outcome_of_record, Call};
-use crate::generate::{
-    draw_held, draw_lent_length, edge_series, edge_tables, Room, Table, EDGES_OF_N, EDGE_LENGTHS, EVERY_P,
-};
 use crate::given::{Given, Head};
 use crate::lent::Lent;
 use crate::line::Line;
+use crate::numbers::{draw_held, draw_lent_length, Room, EDGES_OF_N, EDGE_LENGTHS, EVERY_P};
 use crate::records::{draw_record, edge_records, faults_together, hours_stated, record_of, record_of_equal};
+use crate::series::edge_series;
+use crate::tables::{edge_tables, Table};
 
 /// `read_record | record | coefficients | codes`
 pub struct ReadRecord {

@@ -1,25 +1,15 @@
 -- Numbers in bytes: big-endian, and three bytes of two's complement. What is written is read back, and bytes that were
 -- read are written again as they were; the record's length. Assumes nothing.
 use mathlib.Core.Path.{_≡_, refl, sym, ap, _∙_}
-use mathlib.Core.List.{List, [], _∷_, _++_, flatMap}
-use mathlib.Core.Logic.{⊎-elim}
+use mathlib.Core.List.{List, [], _∷_, _++_}
 use Prim.Native.Nat.{ℕ, zero, suc, _+_, _-_, _*_, _/_, _%_, _^_, _≤_, _<_}
 use native.Mathlib.Nat.{pow-suc, div-div-eq-div-mul, div-eq-of-lt, mul-assoc, mul-comm, add-mul, suc-mul, div-one}
 use native.Mathlib.Nat.{mul-le-mul-right, mul-add-div-right, pow-le-pow-right}
 use native.Mathlib.Omega.{arith}
 use lib.Dec.{lit<}
-use lib.IntN.{ℤ, pos, negsuc}
-use lib.ListN.{length, take, drop, length-append, length-take, length-drop}
-use lib.Seq.{length-take-le, getD-take, getD-drop}
-use borrow.Author.Tests.{lt-ltb, le-ltb}
-use Rattle.signed.proofs.Sums.{sub-parts}
-use Rattle.signed.proofs.Rules.{signed}
-use Rattle.words.specs.Constants.{version}
-use Rattle.om3.specs.Series.{P}
-use Rattle.om3.specs.Table.{Table}
-use Rattle.om3.specs.Record.{Bytes, bytesOf, numberFrom, InThree, bitsOf, signedOf, threeBytes, signedFrom}
-use Rattle.om3.specs.Record.{recordLength, recordSize, recordOf}
-use Rattle.om3.proofs.Tests.{below-or-not}
+use lib.ListN.{length, take, drop, length-take, length-drop}
+use lib.Seq.{getD-take, getD-drop}
+use Rattle.om3.specs.Record.{Bytes, bytesOf, numberFrom}
 
 pub bytes-length : (w x : ℕ) → length (bytesOf w x) ≡ w
 unfolding bytesOf
@@ -46,18 +36,6 @@ bytes-whole (suc w) x =
 -- A number that has room in w bytes is read back.
 pub bytes-back : (w x : ℕ) → x < 256 ^ w → numberFrom (bytesOf w x) ≡ x
 bytes-back w x h = omega (arith, rw (div-eq-of-lt h) at (bytes-whole w x))
-
--- Any number from −8,388,608 to 8,388,607 is read back from its three bytes.
-pub three-back : (z : ℤ) → InThree z → signedFrom (threeBytes z) ≡ z
-unfolding signedOf
-three-back (pos m) h =
-    let small : m < 256 ^ 3 = omega arith in
-    rw (bytes-back 3 m small, lt-ltb _ _ h)
-three-back (negsuc m) h =
-    let small : 2 ^ 24 - suc m < 256 ^ 3 = omega arith in
-    let large : 2 ^ 23 ≤ 2 ^ 24 - suc m = omega arith in
-    rw (bytes-back 3 (2 ^ 24 - suc m) small, le-ltb _ _ large)
-    (omega (signed, sub-parts (pos (2 ^ 24 - suc m)) (pos (2 ^ 24))))
 
 -- Lists of bytes, put together and taken apart.
 pub bytes-tail : (b : ℕ) (bs : List ℕ) → Bytes (b ∷ bs) → Bytes bs
@@ -123,64 +101,3 @@ bytes-forth (b ∷ bs) h =
     let most : b < 256 = h 0 (omega arith) in
     let first : (b + x / 256 ^ w) % 256 ≡ b = omega (arith, div-eq-of-lt (number-small bs tail)) in
     rw (mul-add-div-right (pow-some w) b x, first, bytes-low w b x, bytes-forth bs tail)
-
--- The bits of a number from −8,388,608 to 8,388,607 are below 2^24, and bits below 2^24 are those of one such number.
-pub bits-small : (z : ℤ) → InThree z → bitsOf z < 2 ^ 24
-bits-small (pos m) h = omega arith
-bits-small (negsuc m) h = omega arith
-
-module _ (x : ℕ) (h : x < 2 ^ 24) where
-  signed-low : x < 2 ^ 23 → signedOf x ≡ pos x
-  unfolding signedOf
-  signed-low b = rw (lt-ltb x (2 ^ 23) b)
-
-  signed-high : 2 ^ 23 ≤ x → signedOf x ≡ negsuc (2 ^ 24 - suc x)
-  unfolding signedOf
-  signed-high b = rw (le-ltb x (2 ^ 23) b) (omega (signed, sub-parts (pos x) (pos (2 ^ 24))))
-
-  pub signed-small : InThree (signedOf x)
-  signed-small =
-      ⊎-elim (λ b. rw (signed-low b) b) (λ b. rw (signed-high b) (omega arith)) (below-or-not x (2 ^ 23))
-
-  pub signed-back : bitsOf (signedOf x) ≡ x
-  signed-back =
-      ⊎-elim (λ b. rw (signed-low b)) (λ b. rw (signed-high b) (omega arith)) (below-or-not x (2 ^ 23))
-
--- Three bytes are those of the number that they spell.
-pub three-forth : (bs : List ℕ) → Bytes bs → length bs ≡ 3 → threeBytes (signedFrom bs) ≡ bs
-three-forth bs h e =
-    let small : numberFrom bs < 2 ^ 24 = rw e at (number-small bs h) in
-    rw (signed-back (numberFrom bs) small) (rw e at (bytes-forth bs h))
-
-pub three-length : (z : ℤ) → length (threeBytes z) ≡ 3
-three-length z = bytes-length 3 (bitsOf z)
-
-pub threes-length : (zs : List ℤ) → length (flatMap threeBytes zs) ≡ 3 * length zs
-unfolding flatMap
-threes-length [] = refl
-threes-length (z ∷ zs) =
-    omega (arith, length-append (threeBytes z) (flatMap threeBytes zs), three-length z, threes-length zs)
-
--- The record has the length that its first field states, and the four bytes of that field. [record 2, 7]
-pub record-length : (n : ℕ) (t : Table) → P n ≤ length (t .coefficients) → P n / 2 ≤ length (t .codes)
-    → length (recordOf n t) ≡ recordSize n
-unfolding recordOf
-record-length n t a b =
-    let field = bytesOf 4 (recordLength n) in
-    let head = field ++ bytesOf 1 version in
-    let both = head ++ bytesOf 2 n in
-    let coefficients = flatMap threeBytes (take (P n) (t .coefficients)) in
-    let codes = take (P n / 2) (t .codes) in
-    omega (
-      arith,
-      length-append (both ++ coefficients) codes,
-      length-append both coefficients,
-      length-append head (bytesOf 2 n),
-      length-append field (bytesOf 1 version),
-      bytes-length 4 (recordLength n),
-      bytes-length 1 version,
-      bytes-length 2 n,
-      threes-length (take (P n) (t .coefficients)),
-      length-take-le (P n) (t .coefficients) a,
-      length-take-le (P n / 2) (t .codes) b,
-    )

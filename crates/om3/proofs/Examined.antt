@@ -31,6 +31,15 @@ pub then-passes : (c : Check) → andThen c passes ≡ c
 then-passes passes = refl
 then-passes (refuses r) = refl
 
+-- The same of checks in order: the first and the others pass, and the cause of the first is not there.
+pub order-parts : (c : Check) (cs : List Check) → inOrder (c ∷ cs) ≡ passes → (c ≡ passes) × (inOrder cs ≡ passes)
+unfolding inOrder
+order-parts c cs e = (then-first c (inOrder cs) e, then-second c (inOrder cs) e)
+
+pub first-absent : (b : Bool) (r : Refusal) (cs : List Check) → inOrder (refuseIf b r ∷ cs) ≡ passes
+    → (b ≡ false) × (inOrder cs ≡ passes)
+first-absent b r cs e = let h = order-parts (refuseIf b r) cs e in (refuse-not b r (h .0), h .1)
+
 then-assoc : (c d e : Check) → andThen c (andThen d e) ≡ andThen (andThen c d) e
 then-assoc passes d e = refl
 then-assoc (refuses r) d e = refl

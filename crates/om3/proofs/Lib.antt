@@ -24,11 +24,12 @@ pub mod Agreeing
 pub mod Demand2
 pub mod Making
 pub mod Taken
-pub mod Threes
 pub mod Bytes
+pub mod ThreeBytes
+pub mod Threes
 pub mod Records
 pub mod RecordsOpened
-pub mod RecordsAgain
+pub mod RecordsForth
 pub mod RecordsTaken
 pub mod Edges
 pub mod Intervals

@@ -12,7 +12,7 @@ use Rattle.om3.specs.Checks.{inOrder}
 use Rattle.om3.specs.Sound.{soundNode, nodesBelow, examine}
 use Rattle.om3.specs.Refusals.{checkReadings}
 use Rattle.om3.specs.Level.{levelStretch}
-use Rattle.om3.specs.Record.{bytesOf, numberFrom, signedOf, recordOf, openedRecord, askedRecord}
+use Rattle.om3.specs.Record.{bytesOf, numberFrom, signedOf, recordOf, tableIn, openedRecord, askedRecord}
 use Rattle.om3.specs.Columns.{edges}
 use Rattle.om3.specs.Stopped.{shares, inside, opened, visited, countAt, rangeOver, outer, innerNodes, stopped}
 use Rattle.om3.specs.Finished.{walk, walkEnd, lastOr, finished}
@@ -27,7 +27,7 @@ unfoldable computing : Unit {0}
 unfolding upFrom any every keep firstFrom levels hourOf width start hours levelOf look rangeOf coefficient pairCode
     reachedAt inOrder soundNode nodesBelow examine checkReadings edges shares inside opened visited countAt
     rangeOver outer innerNodes stopped walk walkEnd lastOr finished dayChange levelStretch bytesOf numberFrom
-    signedOf recordOf openedRecord askedRecord flatMap
+    signedOf recordOf tableIn openedRecord askedRecord flatMap
 computing = tt
 
 -- The numbers marked [P], 1 to 10.

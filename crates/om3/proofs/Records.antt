@@ -6,7 +6,7 @@ use mathlib.Core.List.{List, [], _∷_, _++_, map, flatMap}
 use Prim.Native.Nat.{ℕ, zero, suc, _+_, _*_, _/_, _^_, _≤_, _<_}
 use native.Mathlib.Omega.{arith}
 use lib.IntN.{ℤ, pos}
-use lib.ListN.{length, getD, take, drop}
+use lib.ListN.{length, getD, take, drop, length-append}
 use lib.Seq.{length-take-le, getD-take, drop-at, drop-drop, take-all, ext-getD}
 use Rattle.words.specs.Constants.{largestHours, version}
 use Rattle.om3.specs.Lists.{upFrom}
@@ -14,12 +14,23 @@ use Rattle.om3.specs.Series.{P}
 use Rattle.om3.specs.Table.{Table}
 use Rattle.om3.specs.Refusals.{tableShort}
 use Rattle.om3.specs.Record.{Bytes, bytesOf, InThree, threeBytes, signedFrom, recordLength, recordSize, recordOf}
-use Rattle.om3.specs.Record.{bytesAt, headerSize, lengthIn, versionIn, hoursIn, coefficientIn, tableIn}
+use Rattle.om3.specs.Record.{headerOf, headerSize, bytesAt, lengthIn, versionIn, hoursIn, coefficientIn, tableIn}
 use Rattle.om3.proofs.Lists.{map-up-length, map-up-from-0}
 use Rattle.om3.proofs.Levels.{P-most}
 use Rattle.om3.proofs.Demand2.{coefficients-there, codes-there}
-use Rattle.om3.proofs.Bytes.{bytes-back, three-back, threes-length, record-length, bytes-take, bytes-append}
-use Rattle.om3.proofs.Bytes.{bytes-are}
+use Rattle.om3.proofs.Bytes.{bytes-length, bytes-back, bytes-take, bytes-append, bytes-are}
+use Rattle.om3.proofs.ThreeBytes.{three-back, threes-size}
+
+pub header-size : (stated n : ℕ) → length (headerOf stated n) ≡ headerSize
+header-size stated n =
+    omega (
+      arith,
+      length-append (bytesOf 4 stated ++ bytesOf 1 version) (bytesOf 2 n),
+      length-append (bytesOf 4 stated) (bytesOf 1 version),
+      bytes-length 4 stated,
+      bytes-length 1 version,
+      bytes-length 2 n,
+    )
 
 -- The bytes of signed numbers, three of each one: those of number p stand from place 3p on.
 pub threes-at : (zs : List ℤ) (rest : List ℕ) (p : ℕ) → p < length zs
@@ -62,9 +73,9 @@ module _ (n : ℕ) (t : Table) where
   record-after = refl
 
   -- Codes that are bytes make a record of bytes.
-  pub record-bytes : Bytes (t .codes) → Bytes r
+  pub record-range : Bytes (t .codes) → Bytes r
   unfolding recordOf
-  record-bytes h =
+  record-range h =
       let A = bytesOf 4 (recordLength n) in
       let B = bytesOf 1 version in
       let C = bytesOf 2 n in
@@ -80,8 +91,22 @@ module _ (n : ℕ) (t : Table) where
     taken-length : length (take (P n) (t .coefficients)) ≡ P n
     taken-length = length-take-le (P n) (t .coefficients) (coefficients-there n t room)
 
+    -- Its length field, and so its size, is that of n. [record 2, 7]
     pub record-size : length r ≡ recordSize n
-    record-size = record-length n t (coefficients-there n t room) (codes-there n t room)
+    unfolding recordOf
+    record-size =
+        let header = headerOf (recordLength n) n in
+        let coefficients = flatMap threeBytes (take (P n) (t .coefficients)) in
+        let codes = take (P n / 2) (t .codes) in
+        omega (
+          arith,
+          length-append (header ++ coefficients) codes,
+          length-append header coefficients,
+          header-size (recordLength n) n,
+          threes-size (take (P n) (t .coefficients)),
+          taken-length,
+          length-take-le (P n / 2) (t .codes) (codes-there n t room),
+        )
 
     record-threes : (p : ℕ) → p < P n → bytesAt r (headerSize + 3 * p) 3 ≡ threeBytes (getD (t .coefficients) p (pos 0))
     record-threes p h =
@@ -93,7 +118,7 @@ module _ (n : ℕ) (t : Table) where
     record-codes =
         let D = flatMap threeBytes (take (P n) (t .coefficients)) in
         let E = take (P n / 2) (t .codes) in
-        let size : length D ≡ 3 * P n = omega (arith, threes-length (take (P n) (t .coefficients)), taken-length) in
+        let size : length D ≡ 3 * P n = omega (arith, threes-size (take (P n) (t .coefficients)), taken-length) in
         let fits = length-take-le (P n / 2) (t .codes) (codes-there n t room) in
         rw (← drop-drop (3 * P n) headerSize r, record-after, drop-at D E (3 * P n) size)
         (take-all (P n / 2) E (omega arith))

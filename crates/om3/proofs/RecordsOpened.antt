@@ -1,8 +1,8 @@
 -- Opening takes a list of numbers exactly if its fields and its length fit one another; a written record is taken.
 -- Assumes nothing.
 use mathlib.Core.Path.{_≡_, sym}
-use mathlib.Core.Bool.{Bool, false, not}
-use mathlib.Core.List.{List, _∷_}
+use mathlib.Core.Bool.{false, not}
+use mathlib.Core.List.{List}
 use mathlib.Core.Logic.{_↔_}
 use Prim.Native.Nat.{ℕ, _+_, _≤_, _<_}
 use native.Mathlib.Omega.{arith}
@@ -11,16 +11,15 @@ use lib.IntN.{pos}
 use lib.ListN.{length, getD}
 use borrow.Author.Tests.{le-ltb, ltb-false, eq-eqb, eqb-true, not-false}
 use Rattle.words.specs.Constants.{largestHours, version}
-use Rattle.words.specs.declared.Refusal.{Refusal}
 use Rattle.words.specs.declared.Refusal.the-variants.{BadHours, CutShort, BadVersion, BadLength, BytesAfter}
 use Rattle.om3.specs.Series.{badHours, P}
 use Rattle.om3.specs.Table.{Table}
-use Rattle.om3.specs.Checks.{Check, passes, refuseIf, inOrder}
+use Rattle.om3.specs.Checks.{passes, inOrder}
 use Rattle.om3.specs.Refusals.{tableShort}
 use Rattle.om3.specs.Record.{recordLength, recordSize, recordOf, headerSize, lengthIn, versionIn, hoursIn}
 use Rattle.om3.specs.Record.{coefficientIn, tableIn, openingChecks}
 use Rattle.om3.proofs.Lists.{map-up-from-0}
-use Rattle.om3.proofs.Examined.{then-first, then-second, refuse-not}
+use Rattle.om3.proofs.Examined.{first-absent}
 use Rattle.om3.proofs.Taken.{good-hours}
 use Rattle.om3.proofs.Records.{record-length-in, record-version-in, record-hours-in, record-size}
 
@@ -30,15 +29,6 @@ pub record WellFormed (r : List ℕ) : Type 0 where
   pub timed : badHours (hoursIn r) ≡ false
   pub stated : lengthIn r ≡ recordLength (hoursIn r)
   pub sized : length r ≡ recordSize (hoursIn r)
-
--- Checks in order pass only if the first and the others do; so the cause of the first is not there.
-pub order-parts : (c : Check) (cs : List Check) → inOrder (c ∷ cs) ≡ passes → (c ≡ passes) × (inOrder cs ≡ passes)
-unfolding inOrder
-order-parts c cs e = (then-first c (inOrder cs) e, then-second c (inOrder cs) e)
-
-first-absent : (b : Bool) (why : Refusal) (cs : List Check) → inOrder (refuseIf b why ∷ cs) ≡ passes
-    → (b ≡ false) × (inOrder cs ≡ passes)
-first-absent b why cs e = let h = order-parts (refuseIf b why) cs e in (refuse-not b why (h .0), h .1)
 
 module _ (r : List ℕ) where
   pub formed-opens : WellFormed r → openingChecks r ≡ passes

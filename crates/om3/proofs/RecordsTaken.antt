@@ -20,13 +20,13 @@ use Rattle.om3.specs.Record.{Bytes, recordSize, recordOf, HasRecord, hea
 use Rattle.om3.specs.Record.{writingChecks, openingChecks, readingChecks}
 use Rattle.om3.proofs.Lists.{map-up-length}
 use Rattle.om3.proofs.Levels.{levels-some}
-use Rattle.om3.proofs.Examined.{then-passes, examine-sound}
+use Rattle.om3.proofs.Examined.{then-passes, order-parts, examine-sound}
 use Rattle.om3.proofs.Demand2.{made-has, made-turned, has-sound, turned-series, turned-has}
 use Rattle.om3.proofs.Making.{good-some}
 use Rattle.om3.proofs.Threes.{sound-threes}
 use Rattle.om3.proofs.Records.{record-hours-in, record-table-in}
-use Rattle.om3.proofs.RecordsOpened.{order-parts, opens-formed, record-opens}
-use Rattle.om3.proofs.RecordsAgain.{part-length, record-again}
+use Rattle.om3.proofs.RecordsOpened.{opens-formed, record-opens}
+use Rattle.om3.proofs.RecordsForth.{part-length, record-forth}
 
 -- With hours and room in order, the examination alone decides writing; with the fields and the room in order, reading.
 pub writing-decided : (n : ℕ) → badHours n ≡ false → (t : Table) (lent : ℕ)
@@ -40,9 +40,9 @@ reading-decided r opens lent room =
     unfold inOrder in rw (opens, room) (then-passes (examineTable (hoursIn r) (tableIn r)))
 
 -- A sound table is read back from its record: its coefficients have room in three bytes.
-pub sound-back : (n : ℕ) (t : Table) → n ≤ largestHours → tableShort n t ≡ false → soundTable (levels n) n t ≡ true
+pub record-back : (n : ℕ) (t : Table) → n ≤ largestHours → tableShort n t ≡ false → soundTable (levels n) n t ≡ true
     → tableIn (recordOf n t) ≡ record { coefficients = take (P n) (t .coefficients); codes = take (P n / 2) (t .codes) }
-sound-back n t most room ok =
+record-back n t most room ok =
     record-table-in n t room (sound-threes (levels n) n t (levels-some n) ok) most
 
 -- Room that is there is not short.
@@ -78,7 +78,7 @@ taken-series r bytes lent room h =
     let ok = examine-sound (levels n) n t .0 (sym (reading-decided r opens lent room) ∙ h) in
     let s = turnedBack (levels n) t n in
     let has = turned-has n (good .0) (good .1) t ok (opened-room r opens) in
-    (s, turned-series n (good .0) (good .1) t ok, sym (record-again r bytes opens) ∙ table-record n s t has)
+    (s, turned-series n (good .0) (good .1) t ok, sym (record-forth r bytes opens) ∙ table-record n s t has)
 
 -- The record of a series: it states the hours and the table of the series, and is read.
 module _ (n : ℕ) (s : List ℤ) (series : Series n s) where
@@ -99,7 +99,7 @@ module _ (n : ℕ) (s : List ℤ) (series : Series n s) where
 
   pub made-table : tableIn (recordOf n T) ≡ T
   made-table =
-      sound-back n T (series .most) made-room made-ok
+      record-back n T (series .most) made-room made-ok
       ∙ (λ i. record { coefficients = made-has n s .coefficients i; codes = made-has n s .codes i })
 
   pub made-read : (lent : Table) → tableShort n lent ≡ false → readingChecks (recordOf n T) lent ≡ passes

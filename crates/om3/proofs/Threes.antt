@@ -6,8 +6,7 @@ use mathlib.Core.Logic.{⊎-elim}
 use Prim.Native.Nat.{ℕ, zero, suc, _+_, _-_, _*_, _/_, _^_, _≤_, _<_}
 use native.Mathlib.Nat.{two-pow-succ}
 use native.Mathlib.Omega.{arith}
-use lib.Dec.{lit<}
-use lib.IntN.{ℤ, pos, negsuc, negℤ, _-ℤ_}
+use lib.IntN.{ℤ, pos, negℤ, _-ℤ_}
 use lib.Signed.{_≤ℤ_}
 use lib.ListN.{getD}
 use Rattle.signed.proofs.Sums.{sub-parts}
@@ -28,29 +27,28 @@ use Rattle.om3.proofs.SoundDetails.{RootValues, root-values, Details}
 use Rattle.om3.proofs.SoundTables.{root-sound, node-details, readings-reached}
 
 detail-three : (z : ℤ) → negℤ (pos largestDetail) ≤ℤ z → z ≤ℤ pos largestDetail → InThree z
-detail-three (pos m) a b = omega signed
-detail-three (negsuc m) a b = omega signed
+detail-three z a b = (omega signed, omega signed)
 
 -- The low and the high of a range of readings, and the details of two such ranges.
 low-three : (r : Range) → Readings r → InThree (lowOf r)
-low-three Empty p = lit< tt
+low-three Empty p = (omega signed, omega signed)
 low-three (Held a b) p = detail-three a (omega signed) (omega signed)
 
 high-three : (r : Range) → Readings r → InThree (highOf r)
-high-three Empty p = lit< tt
+high-three Empty p = (omega signed, omega signed)
 high-three (Held a b) p = detail-three b (omega signed) (omega signed)
 
 low-detail-three : (r s : Range) → Readings r → Readings s → InThree (lowDetail r s)
-low-detail-three Empty Empty p q = lit< tt
-low-detail-three Empty (Held c d) p q = lit< tt
-low-detail-three (Held a b) Empty p q = lit< tt
+low-detail-three Empty Empty p q = (omega signed, omega signed)
+low-detail-three Empty (Held c d) p q = (omega signed, omega signed)
+low-detail-three (Held a b) Empty p q = (omega signed, omega signed)
 low-detail-three (Held a b) (Held c d) p q =
     detail-three (a -ℤ c) (omega (signed, sub-parts a c)) (omega (signed, sub-parts a c))
 
 high-detail-three : (r s : Range) → Readings r → Readings s → InThree (highDetail r s)
-high-detail-three Empty Empty p q = lit< tt
-high-detail-three Empty (Held c d) p q = lit< tt
-high-detail-three (Held a b) Empty p q = lit< tt
+high-detail-three Empty Empty p q = (omega signed, omega signed)
+high-detail-three Empty (Held c d) p q = (omega signed, omega signed)
+high-detail-three (Held a b) Empty p q = (omega signed, omega signed)
 high-detail-three (Held a b) (Held c d) p q =
     detail-three (b -ℤ d) (omega (signed, sub-parts b d)) (omega (signed, sub-parts b d))
 

@@ -13,13 +13,15 @@ use lib.IntN.{ℤ, pos, negℤ}
 use lib.ListN.{replicate}
 use Rattle.words.specs.Constants.{gap}
 use Rattle.words.specs.Said.{Said, taken, refused as refusedBy}
-use Rattle.words.specs.Said.{saidOfFinished, saidOfStopped, saidOfEdges, saidOfDayChange, saidOfOpening, saidOfAsking}
+use Rattle.words.specs.Said.{saidOfFinished, saidOfStopped, saidOfEdges, saidOfDayChange}
+use Rattle.words.specs.Said.{saidOfWriting, saidOfUnpacking, saidOfOpening, saidOfAsking}
 use Rattle.om3.specs.Series.{levels}
 use Rattle.om3.specs.Table.{Table, tableOf}
 use Rattle.om3.specs.Checks.{Check, passes, refuses}
 use Rattle.om3.specs.Refusals.{makingChecks, turningBackChecks}
 use Rattle.om3.specs.Level.{levelPart}
-use Rattle.om3.specs.Record.{recordLength, recordSize, recordOf, openedRecord, askedRecord}
+use Rattle.om3.specs.Record.{recordLength, recordSize, recordOf, hoursIn, openedRecord, askedRecord}
+use Rattle.om3.specs.Record.{writingChecks, writingBy, readingChecks, unpackingBy}
 use Rattle.om3.specs.Columns.{edges}
 use Rattle.om3.specs.Stopped.{stopped}
 use Rattle.om3.specs.Finished.{finished}
@@ -43,8 +45,13 @@ pub data Question : Type 0 where
   levelFor : (n j : ℕ) (coefficients : List ℤ) → Question
   -- the record's length field and its size
   sizeFor : (n : ℕ) → Question
-  -- the record of the table of n hours that hold s; what opening bytes answers; asking them for a coefficient
+  -- the record of the table of n hours that hold s
   recordFor : (n : ℕ) (s : List ℤ) → Question
+  -- what writing a table answers, with so many bytes lent; what reading bytes answers, with so many coefficients and
+  -- codes lent
+  writingFor : (n : ℕ) (coefficients : List ℤ) (codes : List ℕ) (lent : ℕ) → Question
+  readingFor : (bytes : List ℕ) (coefficients codes : ℕ) → Question
+  -- what opening bytes answers; asking them for a coefficient
   openFor : (bytes : List ℕ) → Question
   askFor : (bytes : List ℕ) (p : ℕ) → Question
 
@@ -55,6 +62,10 @@ pub data Reply : Type 0 where
 
 abbrev tableFrom : ℕ → List ℤ → Table
 tableFrom n s = tableOf (levels n) n s
+
+-- Room lent for so many coefficients and codes.
+abbrev room : (coefficients codes : ℕ) → Table
+room cs ks = record { coefficients = replicate cs (pos 0); codes = replicate ks 0 }
 
 abbrev saidOfCheck : Check → Said
 saidOfCheck passes = taken []
@@ -72,6 +83,10 @@ replyTo (finishedIn n cs ks a b w k) =
     says (saidOfFinished (finished n (record { coefficients = cs; codes = ks }) a b w k))
 replyTo (levelFor n j cs) = says (taken (levelPart n j cs))
 replyTo (recordFor n s) = bytes (recordOf n (tableFrom n s))
+replyTo (writingFor n cs ks lent) =
+    says (saidOfWriting (writingBy (writingChecks n (record { coefficients = cs; codes = ks }) lent) n))
+replyTo (readingFor r cs ks) =
+    says (saidOfUnpacking (unpackingBy (readingChecks r (room cs ks)) (hoursIn r)))
 replyTo (openFor r) = says (saidOfOpening (openedRecord r))
 replyTo (askFor r p) = says (saidOfAsking (askedRecord r p))
 replyTo (edgesFor n a b w k) = says (saidOfEdges (edges n a b w k))
@@ -201,6 +216,10 @@ late =
 abbrev fourteen : List ℕ
 fourteen = 0 ∷ 0 ∷ 0 ∷ 10 ∷ 1 ∷ 0 ∷ 1 ∷ 255 ∷ 254 ∷ 12 ∷ 255 ∷ 254 ∷ 12 ∷ 2 ∷ []
 
+-- The same with the code of two readings, of which the second would be past the series.
+abbrev damaged : List ℕ
+damaged = 0 ∷ 0 ∷ 0 ∷ 10 ∷ 1 ∷ 0 ∷ 1 ∷ 255 ∷ 254 ∷ 12 ∷ 255 ∷ 254 ∷ 12 ∷ 0 ∷ []
+
 -- Examples of our own, and of where document 01 leaves room.
 abbrev pub further : List Case
 further =
@@ -232,6 +251,15 @@ further =
     ∷ (openFor (0 ∷ 0 ∷ 0 ∷ 11 ∷ 1 ∷ 0 ∷ 0 ∷ []) is refused 1 0)
     ∷ (openFor (0 ∷ 0 ∷ 0 ∷ 11 ∷ 1 ∷ 0 ∷ 1 ∷ []) is refused 10 0)
     ∷ (openFor (0 ∷ 0 ∷ 0 ∷ 10 ∷ 1 ∷ 0 ∷ 1 ∷ []) is refused 8 0)
+    -- so is writing, and reading after the causes of opening [refusals 18, 19]
+    ∷ (writingFor 0 [] [] 0 is refused 1 0)
+    ∷ (writingFor 2 (g 5 ∷ g 4 ∷ []) (0 ∷ []) 13 is refused 3 0)
+    ∷ (writingFor 2 (g 5 ∷ g 4 ∷ []) (0 ∷ []) 14 is refused 4 0)
+    ∷ (writingFor 2 (g 4 ∷ g 5 ∷ []) (0 ∷ []) 14 is says (taken (pos 14 ∷ [])))
+    ∷ (readingFor (fourteen ++ 0 ∷ []) 1 0 is refused 11 0)
+    ∷ (readingFor damaged 1 1 is refused 3 0)
+    ∷ (readingFor damaged 2 1 is refused 4 1)
+    ∷ (readingFor fourteen 2 1 is says (taken (pos 1 ∷ [])))
     ∷ (askFor fourteen 1 is says (taken (-g 500 ∷ [])))
     ∷ (askFor fourteen 2 is refused 13 0)
     ∷ []

@@ -6,7 +6,9 @@
 --   bitsOf z, signedOf x            z in 24 bits, two's complement; the number that 24 bits are
 --   InThree z                       z has room in three bytes
 --   threeBytes z, signedFrom bs     z in three bytes, two's complement; the number that three bytes spell
+--   lengthFor places                the length field of a record of so many coefficients
 --   recordLength n, recordSize n    the length field for n hours; how many bytes the whole record has
+--   headerOf stated n, headerSize   the fields before the coefficients, the first stating so many bytes; their size
 --   recordOf n t                    the record of a table
 --   HasRecord n s r                 a series of n hours has this record
 --   bytesAt r p w                   the w bytes of r from place p on
@@ -23,8 +25,8 @@ use mathlib.Core.Bool.{cond, not, _||_}
 use mathlib.Core.List.{List, [], _∷_, _++_, map, flatMap}
 use Prim.Native.Nat.{ℕ, zero, suc, _+_, _-_, _*_, _/_, _%_, _^_, _<_}
 use lib.Dec.{leb, ltb, eqb}
-use lib.IntN.{ℤ, pos, negsuc, _-ℤ_}
-use lib.Signed.{mag}
+use lib.IntN.{ℤ, pos, negsuc, negℤ, _-ℤ_}
+use lib.Signed.{_≤ℤ_}
 use lib.ListN.{length, getD, take, drop}
 use Rattle.words.specs.Constants.{version}
 use Rattle.words.specs.declared.Refusal.the-variants.{CutShort, BadVersion, BadLength, BytesAfter, BadPlace}
@@ -53,7 +55,7 @@ numberFrom (b ∷ bs) = b * 256 ^ length bs + numberFrom bs
 
 -- Three bytes hold −8,388,608 to 8,388,607. [record 5]
 abbrev pub InThree : ℤ → Type 0
-InThree z = mag z < 2 ^ 23
+InThree z = (negℤ (pos (2 ^ 23)) ≤ℤ z) × (z ≤ℤ pos (2 ^ 23 - 1))
 
 -- Two's complement of three bytes: a negative number stands as that number plus 2^24. [record 5]
 abbrev pub bitsOf : ℤ → ℕ
@@ -70,17 +72,23 @@ abbrev pub signedFrom : List ℕ → ℤ
 signedFrom bs = signedOf (numberFrom bs)
 
 -- The length of what follows the length field: 3 + 3P + P/2. [record 2]
+abbrev pub lengthFor : (places : ℕ) → ℕ
+lengthFor places = 3 + 3 * places + places / 2
+
 abbrev pub recordLength : ℕ → ℕ
-recordLength n = 3 + 3 * P n + P n / 2
+recordLength n = lengthFor (P n)
 
 abbrev pub recordSize : ℕ → ℕ
 recordSize n = 4 + recordLength n
 
--- Four bytes of length, one of version, two of n, the coefficients, and the codes directly after the last.
--- [record 2, 3, 4, 5, 6]
+-- Four bytes of length, one of version, two of n. [record 2, 3, 4]
+abbrev pub headerOf : (stated n : ℕ) → List ℕ
+headerOf stated n = bytesOf 4 stated ++ bytesOf 1 version ++ bytesOf 2 n
+
+-- Then the coefficients, and the codes directly after the last. [record 5, 6]
 unfoldable pub recordOf : ℕ → Table → List ℕ
 recordOf n t =
-    bytesOf 4 (recordLength n) ++ bytesOf 1 version ++ bytesOf 2 n
+    headerOf (recordLength n) n
     ++ flatMap threeBytes (take (P n) (t .coefficients)) ++ take (P n / 2) (t .codes)
 
 -- A series of n hours has the record of its table. [record 6]

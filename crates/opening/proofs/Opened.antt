@@ -2,7 +2,7 @@
 use mathlib.Core.Path.{_≡_, _∙_}
 use mathlib.Core.Bool.{true, false, not}
 use mathlib.Core.List.{List, [], _∷_}
-use Prim.Native.Nat.{ℕ, _+_, _*_, _/_, _≤_, _<_}
+use Prim.Native.Nat.{ℕ, _+_, _≤_, _<_}
 use native.Mathlib.Omega.{arith}
 use lib.Dec.{ltb, eqb}
 use lib.ListN.{length, getD}
@@ -15,7 +15,7 @@ use Rattle.words.specs.declared.Opening.{Opening}
 use Rattle.om3.specs.Series.{badHours, P}
 use Rattle.om3.specs.Checks.{refuses, refuseIf, inOrder}
 use Rattle.om3.specs.Refusals.{checkHours}
-use Rattle.om3.specs.Record.{numberFrom, recordLength, headerSize, lengthIn, versionIn, hoursIn}
+use Rattle.om3.specs.Record.{numberFrom, recordLength, recordSize, headerSize, lengthIn, versionIn, hoursIn}
 use Rattle.om3.specs.Record.{openingChecks, openedRecord}
 
 module _ (r : List ℕ) where
@@ -64,7 +64,7 @@ module _ (r : List ℕ) where
     -- n is a number of hours, their record has this size, and the first field states x bytes.
     pub record Stated (size x : ℕ) : Type 0 where
       pub good : badHours n ≡ false
-      pub whole : size ≡ headerSize + 3 * P n + P n / 2
+      pub whole : size ≡ recordSize n
       pub field : x ≡ lengthIn r
 
     module _ (size x : ℕ) (s : Stated size x) where

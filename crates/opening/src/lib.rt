@@ -13,16 +13,16 @@ pub fn open_record(bytes: &[u8]) -> Opening
     if bytes.len() < words::HEADER_SIZE {
         return Opening::Refused(Refusal::CutShort);
     }
-    if bytes[4] != words::VERSION {
+    if bytes[words::LENGTH_SIZE] != words::VERSION {
         return Opening::Refused(Refusal::BadVersion);
     }
-    let hours = packing::number_from(&bytes[5..7]);
+    let hours = packing::number_from(&bytes[words::HOURS_AT..words::HEADER_SIZE]);
     if sizes::bad_hours(hours) {
         return Opening::Refused(Refusal::BadHours);
     }
     let places = sizes::places(hours);
     let size = sizes::record_size(places);
-    if words::LENGTH_SIZE + packing::number_from(&bytes[0..4]) != size {
+    if words::LENGTH_SIZE + packing::number_from(&bytes[0..words::LENGTH_SIZE]) != size {
         return Opening::Refused(Refusal::BadLength);
     }
     if bytes.len() < size {
@@ -45,7 +45,7 @@ pub fn ask(bytes: &[u8], places: usize, place: usize) -> Asking
     if bytes.len() < words::HEADER_SIZE {
         return Asking::Refused(Refusal::CutShort);
     }
-    let packed = &bytes[7..];
+    let packed = &bytes[words::HEADER_SIZE..];
     if packed.len() / 3 <= place {
         return Asking::Refused(Refusal::CutShort);
     }

@@ -6,23 +6,20 @@ use Prim.Native.Nat.{ℕ, suc, _+_, _-_, _*_, _/_, _≤_, _<_}
 use native.Mathlib.Nat.{zero-add}
 use native.Mathlib.Omega.{arith}
 use lib.IntN.{ℤ, pos}
-use lib.ListN.{length, getD, take, drop, set, length-drop}
+use lib.ListN.{length, getD, take, drop, set}
 use lib.Seq.{take-all, take-suc, length-take-le}
 use Rattle.om3.specs.Lists.{upFrom}
 use Rattle.om3.specs.Calls.{filled}
 use Rattle.om3.specs.Record.{bytesOf, bytesAt, bitsOf, threeBytes}
 use Rattle.om3.proofs.Lists.{up-append, map-up-length}
 use Rattle.om3.proofs.Filled.{filled-length, filled-part, filled-set, filled-all}
-use Rattle.om3.proofs.Bytes.{three-length, threes-length}
+use Rattle.om3.proofs.ThreeBytes.{three-size, threes-size}
+use Rattle.om3.proofs.RecordsForth.{part-length}
 use Rattle.packing.specs.Packing.{coefficientFrom, unpacked}
 
--- The part of place p, from 3p up to, not including, 3p + 3, is three bytes long.
-module _ (bs : List ℕ) (p : ℕ) where
-  pub part-three : take (3 * p + 3 - 3 * p) (drop (3 * p) bs) ≡ bytesAt bs (3 * p) 3
-  part-three = let e : 3 * p + 3 - 3 * p ≡ 3 = omega arith in ap (λ (w : ℕ). take w (drop (3 * p) bs)) e
-
-  pub part-length : 3 * p + 3 ≤ length bs → length (bytesAt bs (3 * p) 3) ≡ 3
-  part-length h = length-take-le 3 (drop (3 * p) bs) (omega (arith, length-drop (3 * p) bs))
+-- The part of place p goes from 3p up to, not including, 3p + 3.
+pub part-three : (bs : List ℕ) (p : ℕ) → take (3 * p + 3 - 3 * p) (drop (3 * p) bs) ≡ bytesAt bs (3 * p) 3
+part-three bs p = let e : 3 * p + 3 - 3 * p ≡ 3 = omega arith in ap (λ (w : ℕ). take w (drop (3 * p) bs)) e
 
 threes-snoc : (cs : List ℤ) (z : ℤ) → flatMap threeBytes (cs ++ (z ∷ [])) ≡ flatMap threeBytes cs ++ threeBytes z
 unfolding flatMap
@@ -42,7 +39,7 @@ module _ (cs : List ℤ) (old : List ℕ) (size : length old ≡ 3 * length cs) 
   packed-none = record { within = omega arith; packed = refl }
 
   first-length : (p : ℕ) → p ≤ length cs → length (flatMap threeBytes (take p cs)) ≡ 3 * p
-  first-length p h = threes-length (take p cs) ∙ ap (λ (k : ℕ). 3 * k) (length-take-le p cs h)
+  first-length p h = threes-size (take p cs) ∙ ap (λ (k : ℕ). 3 * k) (length-take-le p cs h)
 
   module _ (out : List ℕ) (p : ℕ) (k : Packed cs old out p) where
     abbrev first : List ℕ
@@ -56,7 +53,7 @@ module _ (cs : List ℤ) (old : List ℕ) (size : length old ≡ 3 * length cs) 
         → part ≡ bytesOf (length (take (3 * p + 3 - 3 * p) (drop (3 * p) out))) bits
         → part ≡ threeBytes (getD cs p (pos 0))
     part-spelled part bits h b e =
-        let w = part-length out p (omega (arith, packed-length, size)) in
+        let w = part-length out (3 * p) 3 (omega (arith, packed-length, size)) in
         e ∙ rw (part-three out p, w, b)
 
     pub packed-more : (part : List ℕ) (bits : ℕ) → p < length cs → bits ≡ bitsOf (getD cs p (pos 0))
@@ -66,7 +63,7 @@ module _ (cs : List ℤ) (old : List ℕ) (size : length old ≡ 3 * length cs) 
         let z = getD cs p (pos 0) in
         let e = part-spelled part bits h b e₀ in
         let s : p + 1 ≡ suc p = omega arith in
-        let w : 3 * p + length (threeBytes z) ≡ 3 * p + 3 = omega (arith, three-length z) in
+        let w : 3 * p + length (threeBytes z) ≡ 3 * p + 3 = omega (arith, three-size z) in
         record {
           within = omega arith;
           packed =

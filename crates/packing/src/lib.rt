@@ -6,6 +6,11 @@ ghost use lib.ListN.{length};
 ghost use Rattle.om3.specs.Record.{bytesOf, numberFrom, InThree, bitsOf, signedOf, threeBytes};
 ghost use Rattle.packing.specs.Packing.{EachInThree, coefficientFrom, unpacked};
 
+// 2^24, and half of it, from which on 24 bits are a negative number.
+const TURN: i32 = 16_777_216;
+
+const HALF_TURN: usize = 8_388_608;
+
 fn wide(b: u8) -> usize
     ensures { λ r. ⌜ r ≡ b ⌝ }
     ensures { λ r. ⌜ r < 256 ⌝ }
@@ -41,13 +46,13 @@ pub fn put_number(x: usize, out: &mut [u8])
     }
 }
 
-// A coefficient in 24 bits, two's complement. [record 5]
+// A coefficient that three bytes hold, in 24 bits, two's complement. [record 5]
 fn bits_of(z: i32) -> usize
     requires { ⌜ InThree z ⌝ }
     ensures { λ r. ⌜ r ≡ bitsOf z ⌝ }
 {
     if z < 0 {
-        (z + 16_777_216) as usize
+        (z + TURN) as usize
     } else {
         z as usize
     }
@@ -58,14 +63,14 @@ fn signed_of(x: usize) -> i32
     requires { ⌜ x < 2 ^ 24 ⌝ }
     ensures { λ r. ⌜ r ≡ signedOf x ⌝ }
 {
-    if x < 8_388_608 {
+    if x < HALF_TURN {
         x as i32
     } else {
-        x as i32 - 16_777_216
+        x as i32 - TURN
     }
 }
 
-// The coefficient at place p of coefficients that have three bytes each.
+// The coefficient at place p of coefficients that have three bytes each, of which there are more than p.
 pub fn coefficient_at(packed: &[u8], p: usize) -> i32
     requires { ⌜ p < length (now packed) / 3 ⌝ }
     ensures { λ r. ⌜ r ≡ coefficientFrom (now (packed .entry)) p ⌝ }
@@ -75,7 +80,7 @@ pub fn coefficient_at(packed: &[u8], p: usize) -> i32
     signed_of(number_from(&packed[at..end]))
 }
 
-// Packs coefficients into three bytes each.
+// Packs coefficients that three bytes hold into just so many bytes as are lent.
 pub fn pack(coefficients: &[i32], out: &mut [u8])
     requires { ⌜ length (now out) ≡ 3 * length (now coefficients) ⌝ }
     requires { ⌜ EachInThree (now coefficients) ⌝ }
@@ -90,7 +95,7 @@ pub fn pack(coefficients: &[i32], out: &mut [u8])
     }
 }
 
-// Unpacks coefficients of three bytes each.
+// Unpacks just so many coefficients of three bytes each as there is room for.
 pub fn unpack(packed: &[u8], out: &mut [i32])
     requires { ⌜ length (now out) ≡ length (now packed) / 3 ⌝ }
     ensures { λ _. ⌜ now (out .exit) ≡ unpacked (now (packed .entry)) ⌝ }

@@ -20,7 +20,7 @@ ghost use Rattle.packing.specs.Packing.{unpacked};
 ghost use Rattle.reading.specs.Reading.{PackedTable, PartsRead, RecordRead};
 
 // Examines node i of packed coefficients, which covers `hours` hours from t on and has this range, and then all nodes
-// below it: each before its halves, left before right. [forms 8]
+// below it, whose details and codes are there: each before its halves, left before right. [forms 8]
 fn examine_below(
     n: usize,
     packed: &[u8],
@@ -127,7 +127,13 @@ pub fn read_record(bytes: &[u8], coefficients: &mut [i32], codes: &mut [u8]) -> 
     match opening::open_record(bytes) {
         Opening::Record { hours, places } => {
             let at = words::HEADER_SIZE + 3 * places;
-            read_parts(hours, &bytes[7..at], &bytes[at..], coefficients, codes)
+            read_parts(
+                hours,
+                &bytes[words::HEADER_SIZE..at],
+                &bytes[at..],
+                coefficients,
+                codes,
+            )
         }
         Opening::Refused(why) => Unpacking::Refused(why),
     }

@@ -1,9 +1,9 @@
 // How large a table and its record are.
 ghost use mathlib.Core.Path.{_≡_};
-ghost use Prim.Native.Nat.{_+_, _*_, _/_, _^_, _≤_};
+ghost use Prim.Native.Nat.{_+_, _^_, _≤_};
 ghost use Rattle.words.specs.Constants.{largestLevel, largestHours};
 ghost use Rattle.om3.specs.Series.{badHours, P};
-ghost use Rattle.om3.specs.Record.{headerSize};
+ghost use Rattle.om3.specs.Record.{lengthFor};
 
 // Check 1: whether n is 0 or over 16,384.
 pub fn bad_hours(n: usize) -> bool
@@ -41,7 +41,7 @@ pub fn power(j: usize) -> usize
 // How many bytes the record of a table of p places has.
 pub fn record_size(p: usize) -> usize
     requires { ⌜ p ≤ largestHours ⌝ }
-    ensures { λ r. ⌜ r ≡ headerSize + 3 * p + p / 2 ⌝ }
+    ensures { λ r. ⌜ r ≡ 4 + lengthFor p ⌝ }
 {
     words::HEADER_SIZE + 3 * p + p / 2
 }

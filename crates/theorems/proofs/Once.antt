@@ -67,8 +67,9 @@ examine-once r r′ c a b = same r r′ (by-equation a b)
     same (Verdict.Unsound i) Verdict.Sound e = cc
     same (Verdict.Unsound i) (Verdict.Unsound k) e = cc
 
--- The contracts of the level's calls are equations. Those of the recursions below a node are not: they speak of the
--- nodes of a table alone, and no caller outside their crates sees them.
+-- The contracts of the level's calls are equations. Those of the examination below a node, of a pair and of two pairs
+-- are not: they speak of the nodes of a table alone. No user's call is among them, and `examine`, which calls them,
+-- leaves nothing open.
 module _ (n j : ℕ) (cs : List ℤ) where
   pub level-once : (r r′ : List ℤ) → r ≡ levelPart n j cs → r′ ≡ levelPart n j cs → r ≡ r′
   level-once r r′ a b = by-equation a b

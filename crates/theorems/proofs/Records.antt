@@ -1,36 +1,38 @@
 -- Demand 2 for the calls of the record: what their contracts say of a record that is read, of one that was written, and
 -- of single coefficients. Assumes nothing.
 use mathlib.Core.Path.{_≡_, refl, sym, ap, _∙_}
-use mathlib.Core.Bool.{false, _||_}
-use mathlib.Core.List.{List}
+use mathlib.Core.Bool.{Bool, false, _||_}
+use mathlib.Core.List.{List, [], _∷_}
 use mathlib.Core.Logic.{_↔_}
 use Prim.Native.Nat.{ℕ, _+_, _*_, _/_, _≤_, _<_}
 use native.Mathlib.Omega.{arith}
 use lib.IntN.{ℤ, pos}
 use lib.ListN.{length, getD, take, List·getD-append}
 use borrow.Author.Tests.{lt-leb, le-ltb}
-use Rattle.words.specs.Constants.{largestHours}
-use Rattle.words.specs.declared.Refusal.the-variants.{ShortBuffer}
+use Rattle.words.specs.declared.Refusal.the-variants.{BadHours, ShortBuffer}
 use Rattle.words.specs.declared.Writing.{Writing}
 use Rattle.words.specs.declared.Unpacking.{Unpacking}
+use Rattle.words.specs.declared.Opening.{Opening}
 use Rattle.words.specs.declared.Asking.{Asking}
-use Rattle.om3.specs.Series.{Series, levels, P}
+use Rattle.om3.specs.Series.{Series, badHours, levels, P}
 use Rattle.om3.specs.Table.{Table, coefficient, codeOfPlace, tableOf, HasTable, lent}
 use Rattle.om3.specs.Checks.{Check, passes, refuses, inOrder}
-use Rattle.om3.specs.Refusals.{short, tableShort, checkHours, checkRoom, examineTable}
+use Rattle.om3.specs.Refusals.{short, tableShort, checkRoom, examineTable}
 use Rattle.om3.specs.Calls.{filled}
 use Rattle.om3.specs.Record.{Bytes, recordSize, recordOf, HasRecord, headerSize, hoursIn, tableIn}
-use Rattle.om3.specs.Record.{writingChecks, writingBy, openingChecks, readingChecks, unpackingBy, askedView}
+use Rattle.om3.specs.Record.{writingChecks, writingBy, openingChecks, readingChecks, unpackingBy}
+use Rattle.om3.specs.Record.{openedRecord, askedView, askedRecord}
 use Rattle.om3.proofs.Lists.{map-up-length}
-use Rattle.om3.proofs.Making.{hours-some}
+use Rattle.om3.proofs.Making.{good-some}
 use Rattle.om3.proofs.Tests.{neither}
-use Rattle.om3.proofs.Examined.{examine-sound, then-first, then-second, refuse-not}
+use Rattle.om3.proofs.Examined.{order-parts, first-absent, examine-sound}
 use Rattle.om3.proofs.Filled.{filled-first, filled-room}
 use Rattle.om3.proofs.Records.{record-size}
-use Rattle.om3.proofs.RecordsOpened.{order-parts, opens-formed, asked-unpacked}
+use Rattle.om3.proofs.RecordsOpened.{opens-formed, asked-unpacked}
 use Rattle.om3.proofs.RecordsTaken.{writing-decided, opened-room, table-record, made-read}
 use Rattle.om3.proofs.RecordsTaken.{reading-exactly, record-hours, record-table}
 use Rattle.om3.proofs.Demand2 as demand2
+use Rattle.opening.proofs.Asked.{opened-asked}
 use Rattle.writing.specs.Writing.{RecordWritten}
 use Rattle.reading.specs.Reading.{RecordRead}
 
@@ -76,30 +78,28 @@ module _ (n : ℕ) (cs : List ℤ) (ks out out′ : List ℕ) (b : ℕ)
   written-checks : (writingChecks n T (length out) ≡ passes) × (b ≡ recordSize n)
   written-checks = written-passes (writingChecks n T (length out)) n b (done .answer)
 
-  hours-right : (1 ≤ n) × (n ≤ largestHours)
-  unfolding inOrder
-  hours-right = hours-some n (then-first (checkHours n) _ (written-checks .0))
+  abbrev isShort : Bool
+  isShort = tableShort n T || short (length out) (recordSize n)
 
-  room-right : tableShort n T ≡ false
-  unfolding inOrder
-  room-right =
-      let isShort = tableShort n T || short (length out) (recordSize n) in
-      let rest = then-second (checkHours n) _ (written-checks .0) in
-      let enough = refuse-not isShort ShortBuffer (then-first (checkRoom isShort) _ rest) in
-      neither (tableShort n T) (short (length out) (recordSize n)) enough .0
+  hours-right : (badHours n ≡ false) × (inOrder (checkRoom isShort ∷ examineTable n T ∷ []) ≡ passes)
+  hours-right = first-absent (badHours n) BadHours _ (written-checks .0)
+
+  room-right : (isShort ≡ false) × (inOrder (examineTable n T ∷ []) ≡ passes)
+  room-right = first-absent isShort ShortBuffer _ (hours-right .1)
+
+  table-room : tableShort n T ≡ false
+  table-room = neither (tableShort n T) (short (length out) (recordSize n)) (room-right .0) .0
 
   some-series : (s : List ℤ) × Series n s × HasTable n s T
-  unfolding inOrder
   some-series =
-      let three = checkRoom (tableShort n T || short (length out) (recordSize n)) in
-      let rest = then-second three _ (then-second (checkHours n) _ (written-checks .0)) in
-      let sound = examine-sound (levels n) n T .0 (then-first (examineTable n T) _ rest) in
-      demand2.sound-exactly n (hours-right .0) (hours-right .1) T room-right .0 sound
+      let few = good-some n (hours-right .0) in
+      let sound = examine-sound (levels n) n T .0 (order-parts (examineTable n T) [] (room-right .1) .0) in
+      demand2.sound-exactly n (few .0) (few .1) T table-room .0 sound
 
   -- The bytes written are its record.
-  pub written-record : take b out′ ≡ recordOf n T
+  written-record : take b out′ ≡ recordOf n T
   written-record =
-      let size = record-size n T room-right ∙ sym (written-checks .1) in
+      let size = record-size n T table-room ∙ sym (written-checks .1) in
       ap (take b) (rw (written-checks .0) at (done .bytes)) ∙ filled-first (recordOf n T) out b size
 
   -- Reading them gives the same table and n.
@@ -122,7 +122,7 @@ module _ (n : ℕ) (cs : List ℤ) (ks out out′ : List ℕ) (b : ℕ)
       )
 
 -- A record that was read.
-module _ (r : List ℕ) (bytes : Bytes r) (cs : List ℤ) (ks : List ℕ) (cs′ : List ℤ) (ks′ : List ℕ) (n : ℕ)
+module _ (r : List ℕ) (cs : List ℤ) (ks : List ℕ) (cs′ : List ℤ) (ks′ : List ℕ) (n : ℕ)
     (done : RecordRead r cs ks cs′ ks′ (Unpacking.Hours n)) where
   both : (readingChecks r (lent cs ks) ≡ passes) × (n ≡ hoursIn r)
   both = read-passes (readingChecks r (lent cs ks)) (hoursIn r) n (done .answer)
@@ -138,12 +138,8 @@ module _ (r : List ℕ) (bytes : Bytes r) (cs : List ℤ) (ks : List ℕ) (cs′
 
   room-lent : tableShort (hoursIn r) (lent cs ks) ≡ false
   room-lent =
-      let rest = order-parts (openingChecks r) _ read-checks .1 in
-      refuse-not (tableShort (hoursIn r) (lent cs ks)) ShortBuffer
-      (order-parts (checkRoom (tableShort (hoursIn r) (lent cs ks))) _ rest .0)
-
-  its-series : (s : List ℤ) × Series (hoursIn r) s × HasRecord (hoursIn r) s r
-  its-series = reading-exactly r bytes (lent cs ks) room-lent .0 read-checks
+      first-absent (tableShort (hoursIn r) (lent cs ks)) ShortBuffer _
+      (order-parts (openingChecks r) _ read-checks .1) .0
 
   left-room : tableShort (hoursIn r) (lent cs′ ks′) ≡ false
   left-room =
@@ -156,47 +152,15 @@ module _ (r : List ℕ) (bytes : Bytes r) (cs : List ℤ) (ks : List ℕ) (cs′
       let long : P k / 2 ≤ length ks′ = omega (arith, b, demand2.codes-there k t room) in
       rw (le-ltb (length cs′) (P k) wide, le-ltb (length ks′) (P k / 2) long)
 
-  -- The table that reading left has that series too ..
-  left-table : (s : List ℤ) → Series (hoursIn r) s → HasRecord (hoursIn r) s r → HasTable (hoursIn r) s (lent cs′ ks′)
-  left-table s series has =
-      let k = hoursIn r in
-      let left = read-writes r bytes cs ks room-lent cs′ ks′ (Unpacking.Hours n) done s series has in
-      let p = map-up-length (coefficient (levels k) k s) 0 (P k) in
-      let q = map-up-length (codeOfPlace (levels k) k s) 0 (P k / 2) in
-      record {
-        coefficients = ap (take (P k)) (left .0) ∙ filled-first (tableOf (levels k) k s .coefficients) cs (P k) p;
-        codes = ap (take (P k / 2)) (left .1) ∙ filled-first (tableOf (levels k) k s .codes) ks (P k / 2) q;
-      }
+  -- Opening it answers n and P ..
+  pub opened-read : openedRecord r ≡ Opening.Record n (P n)
+  unfolding openedRecord
+  opened-read = rw (opens, stated-hours)
 
-  -- .. so writing it is taken.
-  write-checks : (out : List ℕ) → length r ≤ length out
-      → writingChecks (hoursIn r) (lent cs′ ks′) (length out) ≡ passes
-  write-checks out fits =
-      let k = hoursIn r in
-      let s = its-series .0 in
-      let sound = demand2.has-sound k s (lent cs′ ks′) (its-series .1) (left-table s (its-series .1) (its-series .2)) in
-      let size = opens-formed r opens .sized in
-      let long = le-ltb (length out) (recordSize k) (omega arith) in
-      writing-decided k (opens-formed r opens .timed) (lent cs′ ks′) (length out) (rw (left-room, long))
-      ∙ examine-sound (levels k) k (lent cs′ ks′) .1 sound
-
-  -- Written again from the table that reading left, it is the same record: one table has one record.
-  pub write-after-read : (out out′ : List ℕ) (w : Writing) → length r ≤ length out → RecordWritten n cs′ ks′ out out′ w
-      → (w ≡ Writing.Bytes (length r)) × (out′ ≡ filled r out)
-  write-after-read out out′ w fits written =
-      let k = hoursIn r in
-      let s = its-series .0 in
-      let series = its-series .1 in
-      let has = left-table s series (its-series .2) in
-      let size = opens-formed r opens .sized in
-      let again = table-record k s (lent cs′ ks′) has ∙ sym (its-series .2) in
-      let ok = write-checks out fits in
-      (rw (stated-hours, ok, ← size) at (written .answer), rw (stated-hours, ok, again) at (written .bytes))
-
-  -- A coefficient asked for is the one that was unpacked.
-  pub asked-read : (p : ℕ) → p < P n → askedView r (P n) p ≡ Asking.Coefficient (getD cs′ p (pos 0))
+  -- .. and a coefficient asked for is the one that was unpacked.
+  viewed : (p : ℕ) → p < P n → askedView r (P n) p ≡ Asking.Coefficient (getD cs′ p (pos 0))
   unfolding askedView inOrder
-  asked-read p h =
+  viewed p h =
       let h′ : p < P (hoursIn r) = rw (← stated-hours) h in
       let size = opens-formed r opens .sized in
       let reached : headerSize + 3 * p + 3 ≤ length r = omega (arith, size) in
@@ -206,3 +170,49 @@ module _ (r : List ℕ) (bytes : Bytes r) (cs : List ℤ) (ks : List ℕ) (cs′
       rw (stated-hours, lt-leb (P (hoursIn r)) p h′, le-ltb (length r) (headerSize + 3 * p + 3) reached, e)
       (ap Asking.Coefficient
       (asked-unpacked r p h′ ∙ sym (List·getD-append (tableIn r .coefficients) _ (pos 0) p there)))
+
+  pub asked-read : (p : ℕ) → p < P n → askedRecord r p ≡ Asking.Coefficient (getD cs′ p (pos 0))
+  asked-read p h = sym (opened-asked r p n (P n) (sym opened-read)) ∙ viewed p h
+
+  -- Its bytes are bytes.
+  module _ (bytes : Bytes r) where
+    its-series : (s : List ℤ) × Series (hoursIn r) s × HasRecord (hoursIn r) s r
+    its-series = reading-exactly r bytes (lent cs ks) room-lent .0 read-checks
+
+    -- The table that reading left has that series too ..
+    left-table : (s : List ℤ) → Series (hoursIn r) s → HasRecord (hoursIn r) s r → HasTable (hoursIn r) s (lent cs′ ks′)
+    left-table s series has =
+        let k = hoursIn r in
+        let left = read-writes r bytes cs ks room-lent cs′ ks′ (Unpacking.Hours n) done s series has in
+        let p = map-up-length (coefficient (levels k) k s) 0 (P k) in
+        let q = map-up-length (codeOfPlace (levels k) k s) 0 (P k / 2) in
+        record {
+          coefficients = ap (take (P k)) (left .0) ∙ filled-first (tableOf (levels k) k s .coefficients) cs (P k) p;
+          codes = ap (take (P k / 2)) (left .1) ∙ filled-first (tableOf (levels k) k s .codes) ks (P k / 2) q;
+        }
+
+    -- .. so writing it is taken.
+    write-checks : (out : List ℕ) → length r ≤ length out
+        → writingChecks (hoursIn r) (lent cs′ ks′) (length out) ≡ passes
+    write-checks out fits =
+        let k = hoursIn r in
+        let s = its-series .0 in
+        let series = its-series .1 in
+        let sound = demand2.has-sound k s (lent cs′ ks′) series (left-table s series (its-series .2)) in
+        let size = opens-formed r opens .sized in
+        let long = le-ltb (length out) (recordSize k) (omega arith) in
+        writing-decided k (opens-formed r opens .timed) (lent cs′ ks′) (length out) (rw (left-room, long))
+        ∙ examine-sound (levels k) k (lent cs′ ks′) .1 sound
+
+    -- Written again from the table that reading left, it is the same record.
+    pub write-after-read : (out out′ : List ℕ) (w : Writing) → length r ≤ length out
+        → RecordWritten n cs′ ks′ out out′ w → (w ≡ Writing.Bytes (length r)) × (out′ ≡ filled r out)
+    write-after-read out out′ w fits written =
+        let k = hoursIn r in
+        let s = its-series .0 in
+        let series = its-series .1 in
+        let has = left-table s series (its-series .2) in
+        let size = opens-formed r opens .sized in
+        let again = table-record k s (lent cs′ ks′) has ∙ sym (its-series .2) in
+        let ok = write-checks out fits in
+        (rw (stated-hours, ok, ← size) at (written .answer), rw (stated-hours, ok, again) at (written .bytes))

@@ -190,7 +190,8 @@ module _ (n : ℕ) (cs : List ℤ) (ks : List ℕ) (i : NodeId) (f w : ℕ) (ran
           }
 
       pub pairs-examined : (q : Verdict) → PairsExamined n ks leftPair f a b q → Examined n cs ks i f w range q
-      pairs-examined q E = by (E .found) (E .first .pair cs (w / 2) (omega arith) (omega arith)) (E .refused) (E .second)
+      pairs-examined q E =
+          by (E .found) (E .first .pair cs (w / 2) (omega arith) (omega arith)) (E .refused) (E .second)
         where
           by : (r : Verdict) → Examined n cs ks leftPair f (w / 2) a r
               → ((k : NodeId) → r ≡ Verdict.Unsound k → q ≡ Verdict.Unsound k)
@@ -199,7 +200,8 @@ module _ (n : ℕ) (cs : List ℤ) (ks : List ℕ) (i : NodeId) (f w : ℕ) (ran
           by (Verdict.Unsound k) L kept further = rw (kept k refl) (left-unsound a b h (Verdict.Unsound k) L k refl)
 
 -- The two answers of two neighbouring pairs.
-module _ (n : ℕ) (ks : List ℕ) (i : NodeId) (f : ℕ) (one two : Range) (r : Verdict) (E : PairExamined n ks i f one r) where
+module _ (n : ℕ) (ks : List ℕ) (i : NodeId) (f : ℕ) (one two : Range) (r : Verdict)
+    (E : PairExamined n ks i f one r) where
   pub first-refused : (k : NodeId) → r ≡ Verdict.Unsound k → PairsExamined n ks i f one two (Verdict.Unsound k)
   first-refused k z =
       record {

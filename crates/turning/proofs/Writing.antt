@@ -21,7 +21,7 @@ use Rattle.om3.proofs.Reached.{reached-left, reached-right}
 use Rattle.om3.proofs.NodeLists.{every-append}
 use Rattle.node.specs.declared.Halves.{Halves}
 use Rattle.node.specs.Steps.{halvesOf, pairOf}
-use Rattle.turning.specs.Turning.{withHours, Written}
+use Rattle.turning.specs.Turning.{withHours, Written, PairWritten}
 use Rattle.turning.proofs.Answers.{Stepped, stepped, not-stepped}
 use Rattle.turning.proofs.Examining.{one-level, first-index, code-index}
 
@@ -119,3 +119,10 @@ module _ (cs : List ℤ) (ks : List ℕ) (i f w : ℕ) (range : Range) (out : Li
 
       pub node-written : Written cs ks i f w range out out₂
       node-written = record { below = halves-written }
+
+    -- The halves are pairs.
+    pub pairs-written : w < 8 → (a b : Range) → halvesOf range d e ≡ Halves.Sound a b → (out₁ out₂ : List ℤ)
+        → PairWritten ks f a out out₁ → PairWritten ks (f + w / 2) b out₁ out₂ → Written cs ks i f w range out out₂
+    pairs-written eight a b h out₁ out₂ L R =
+        node-written a b h out₁ out₂ (L .pair cs (2 * i) (w / 2) (omega arith) (omega arith))
+        (R .pair cs (2 * i + 1) (w / 2) (omega arith) (omega arith))

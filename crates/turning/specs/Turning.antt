@@ -6,7 +6,7 @@
 --   Examined              the contract of the examination below a node; PairExamined, of a pair's; PairsExamined, of
 --                         two neighbouring pairs'
 --   withHours             a buffer with the hours below a node written
---   Written               the contract of writing the hours below a node
+--   Written               the contract of writing the hours below a node; PairWritten, of a pair's
 --   TurnedBack            the contract of `turn_back`: its answer, and the lent hours whole
 use mathlib.Core.Path.{_≡_}
 use mathlib.Core.Bool.{true}
@@ -72,6 +72,10 @@ pub record Written (cs : List ℤ) (ks : List ℕ) (i f w : ℕ) (range : Range)
   pub below : (l n : ℕ) (v : Node) → Located l v i f w → range ≡ reached l (lent cs ks) v
       → every (soundNode l n (lent cs ks)) (nodesBelow (l - v .level) v) ≡ true
       → out′ ≡ withHours l (lent cs ks) (l - v .level) v out
+
+-- A pair alone, whatever its number and the coefficients are.
+pub record PairWritten (ks : List ℕ) (f : ℕ) (range : Range) (out out′ : List ℤ) : Type 0 where
+  pub pair : (cs : List ℤ) (i w : ℕ) → 2 ≤ w → w < 4 → Written cs ks i f w range out out′
 
 -- The table of n hours in lent coefficients cs and codes ks becomes n hours in the lent buffer out.
 -- [refusals 14, 15, 16, 17] [statements 1]

@@ -10,10 +10,12 @@ use Rattle.words.specs.Constants.{version}
 use Rattle.om3.specs.Series.{P}
 use Rattle.om3.specs.Table.{lent}
 use Rattle.om3.specs.Calls.{filled}
-use Rattle.om3.specs.Record.{bytesOf, threeBytes, recordLength, headerSize, recordOf}
+use Rattle.om3.specs.Record.{bytesOf, threeBytes, lengthFor, recordLength, headerOf, headerSize, recordOf}
 use Rattle.om3.proofs.Filled.{filled-length, filled-part, filled-set, filled-tail}
-use Rattle.om3.proofs.Bytes.{bytes-length, threes-length}
-use Rattle.writing.specs.Writing.{headerOf, Ready}
+use Rattle.om3.proofs.Bytes.{bytes-length}
+use Rattle.om3.proofs.ThreeBytes.{threes-size}
+use Rattle.om3.proofs.Records.{header-size}
+use Rattle.writing.specs.Writing.{Ready}
 
 module _ (stated n : ℕ) (old : List ℕ) (long : headerSize ≤ length old) where
   -- The first two fields.
@@ -22,11 +24,12 @@ module _ (stated n : ℕ) (old : List ℕ) (long : headerSize ≤ length old) wh
 
   begun-length : length begun ≡ 5
   begun-length =
-      length-append (bytesOf 4 stated) (bytesOf 1 version)
-      ∙ rw (bytes-length 4 stated, bytes-length 1 version)
-
-  pub header-length : length (headerOf stated n) ≡ headerSize
-  header-length = length-append begun (bytesOf 2 n) ∙ rw (begun-length, bytes-length 2 n)
+      omega (
+        arith,
+        length-append (bytesOf 4 stated) (bytesOf 1 version),
+        bytes-length 4 stated,
+        bytes-length 1 version,
+      )
 
   module _ (a : List ℕ) (e : a ≡ bytesOf (length (take 4 old)) stated) where
     pub begun-put : set (a ++ drop 4 old) 4 version ≡ filled begun old
@@ -53,14 +56,14 @@ module _ (stated n : ℕ) (old : List ℕ) (long : headerSize ≤ length old) wh
         rw (field, begun-put) (filled-part begun old (bytesOf 2 n) 5 7 begun-length w)
 
   pub header-kept : length (filled (headerOf stated n) old) ≡ length old
-  header-kept = filled-length (headerOf stated n) old (omega (arith, header-length))
+  header-kept = filled-length (headerOf stated n) old (omega (arith, header-size stated n))
 
 -- The whole record, once its header is there.
 module _ (n : ℕ) (cs : List ℤ) (ks old : List ℕ) (ready : Ready n cs ks (length old)) where
   pub enough : headerSize + 3 * length cs + length ks ≤ length old
   enough = omega (arith, ready .coefficients, ready .codes, ready .room)
 
-  module _ (size : ℕ) (e : size ≡ headerSize + 3 * length cs + length cs / 2) (s : List ℕ)
+  module _ (size : ℕ) (e : size ≡ 4 + lengthFor (length cs)) (s : List ℕ)
       (h : s ≡ filled (headerOf (size - 4) n) old) (p : List ℕ) (f : p ≡ flatMap threeBytes cs) where
     abbrev header : List ℕ
     header = headerOf (size - 4) n
@@ -76,9 +79,9 @@ module _ (n : ℕ) (cs : List ℤ) (ks old : List ℕ) (ready : Ready n cs ks (l
 
     coefficients-put : packed ≡ filled (header ++ flatMap threeBytes cs) old
     coefficients-put =
-        let w : headerSize + length (flatMap threeBytes cs) ≡ at = omega (arith, threes-length cs) in
+        let w : headerSize + length (flatMap threeBytes cs) ≡ at = omega (arith, threes-size cs) in
         rw (h, f)
-        (filled-part header old (flatMap threeBytes cs) headerSize at (header-length (size - 4) n old long) w)
+        (filled-part header old (flatMap threeBytes cs) headerSize at (header-size (size - 4) n) w)
 
     stated-right : size - 4 ≡ recordLength n
     stated-right = omega (arith, e, ready .coefficients)
@@ -92,8 +95,8 @@ module _ (n : ℕ) (cs : List ℤ) (ks old : List ℕ) (ready : Ready n cs ks (l
         omega (
           arith,
           length-append header (flatMap threeBytes cs),
-          header-length (size - 4) n old long,
-          threes-length cs,
+          header-size (size - 4) n,
+          threes-size cs,
         ) in
         let fits : at + length ks ≤ length old = omega (arith, enough) in
         let all = take-all (P n) cs (omega (arith, ready .coefficients)) in

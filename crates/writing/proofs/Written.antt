@@ -2,7 +2,7 @@
 use mathlib.Core.Path.{_≡_, sym, _∙_}
 use mathlib.Core.Bool.{true, false}
 use mathlib.Core.List.{List}
-use Prim.Native.Nat.{ℕ, _+_, _*_, _/_, _≤_, _<_}
+use Prim.Native.Nat.{ℕ, _+_, _/_, _≤_, _<_}
 use native.Mathlib.Nat.{le-refl}
 use native.Mathlib.Omega.{arith}
 use lib.IntN.{ℤ, pos}
@@ -18,7 +18,7 @@ use Rattle.om3.specs.Table.{lent}
 use Rattle.om3.specs.Checks.{Check, passes, refuses, inOrder}
 use Rattle.om3.specs.Refusals.{examineTable}
 use Rattle.om3.specs.Calls.{filled}
-use Rattle.om3.specs.Record.{headerSize, recordSize, recordOf, writingChecks}
+use Rattle.om3.specs.Record.{lengthFor, recordSize, recordOf, writingChecks}
 use Rattle.om3.proofs.Making.{good-some}
 use Rattle.om3.proofs.Levels.{levels-some}
 use Rattle.om3.proofs.Examined.{examine-sound}
@@ -60,9 +60,9 @@ module _ (n : ℕ) (cs : List ℤ) (ks out : List ℕ) where
           let w = le-ltb (length cs) (P n) (rw e at wide) in
           refused refusal.ShortBuffer (rw (good, w, lt-ltb (length ks) (P n / 2) (rw e at h)))
 
-      module _ (long : p / 2 ≤ length ks) (size : ℕ) (f : size ≡ headerSize + 3 * p + p / 2) where
+      module _ (long : p / 2 ≤ length ks) (size : ℕ) (f : size ≡ 4 + lengthFor p) where
         whole : size ≡ recordSize n
-        whole = rw e at f ∙ omega arith
+        whole = rw e at f
 
         pub few-bytes : length out < size → RecordWritten n cs ks out out (Writing.Refused refusal.ShortBuffer)
         unfolding inOrder
@@ -109,12 +109,12 @@ module _ (n : ℕ) (cs : List ℤ) (ks out : List ℕ) where
             room = h .bytes;
           })
 
-      pub record-written : (size : ℕ) → size ≡ headerSize + 3 * p + p / 2 → (out′ : List ℕ)
+      pub record-written : (size : ℕ) → size ≡ 4 + lengthFor p → (out′ : List ℕ)
           → out′ ≡ filled (recordOf n (lent (take p cs) (take (p / 2) ks))) out
           → RecordWritten n cs ks out out′ (Writing.Bytes size)
       unfolding recordOf
       record-written size f out′ w =
           let a = take-take (P n) (P n) cs (le-refl (P n)) in
           let b = take-take (P n / 2) (P n / 2) ks (le-refl (P n / 2)) in
-          let s : size ≡ recordSize n = rw pe at f ∙ omega arith in
+          let s : size ≡ recordSize n = rw pe at f in
           record { answer = rw (examined ∙ taken, s); bytes = rw (examined ∙ taken) (w ∙ rw (pe, a, b)) }

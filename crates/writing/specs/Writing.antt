@@ -1,24 +1,19 @@
 -- What writing a record promises. Cited by the contracts of this crate and of the boundary. Assumes nothing.
 --
---   headerOf stated n    the fields before the coefficients, of which the first states so many bytes
 --   Ready n cs ks size   P coefficients, each of which three bytes hold, P/2 codes, and room for their record
 --   RecordWritten        the contract of `write_record`: its answer, and the lent bytes whole
 use mathlib.Core.Path.{_≡_}
-use mathlib.Core.List.{List, _++_}
+use mathlib.Core.List.{List}
 use Prim.Native.Nat.{ℕ, _/_, _≤_}
 use lib.IntN.{ℤ}
 use lib.ListN.{length}
-use Rattle.words.specs.Constants.{largestHours, version}
+use Rattle.words.specs.Constants.{largestHours}
 use Rattle.words.specs.declared.Writing.{Writing}
 use Rattle.om3.specs.Series.{P}
 use Rattle.om3.specs.Table.{lent}
 use Rattle.om3.specs.Calls.{writtenBy}
-use Rattle.om3.specs.Record.{bytesOf, recordSize, recordOf, writingChecks, writingBy}
+use Rattle.om3.specs.Record.{recordSize, recordOf, writingChecks, writingBy}
 use Rattle.packing.specs.Packing.{EachInThree}
-
--- Four bytes of length, one of version, two of n. [record 2, 3, 4]
-abbrev pub headerOf : (stated n : ℕ) → List ℕ
-headerOf stated n = bytesOf 4 stated ++ bytesOf 1 version ++ bytesOf 2 n
 
 pub record Ready (n : ℕ) (cs : List ℤ) (ks : List ℕ) (size : ℕ) : Type 0 where
   pub most : n ≤ largestHours

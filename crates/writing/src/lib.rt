@@ -7,21 +7,22 @@ ghost use Prim.Native.Nat.{_≤_};
 ghost use lib.ListN.{length};
 ghost use Rattle.om3.specs.Table.{lent};
 ghost use Rattle.om3.specs.Calls.{filled};
-ghost use Rattle.om3.specs.Record.{headerSize, recordOf};
-ghost use Rattle.writing.specs.Writing.{headerOf, Ready, RecordWritten};
+ghost use Rattle.om3.specs.Record.{headerOf, headerSize, recordOf};
+ghost use Rattle.writing.specs.Writing.{Ready, RecordWritten};
 
-// Writes the fields before the coefficients: the length of what follows the first field, the version, and n.
+// Writes the fields before the coefficients, for which there is room: the length of what follows the first field, the
+// version, and n.
 fn put_header(stated: usize, n: usize, bytes: &mut [u8])
     requires { ⌜ headerSize ≤ length (now bytes) ⌝ }
     ensures { λ _. ⌜ now (bytes .exit) ≡ filled (headerOf stated n) (now (bytes .entry)) ⌝ }
 {
-    packing::put_number(stated, &mut bytes[0..4]);
-    bytes[4] = words::VERSION;
-    packing::put_number(n, &mut bytes[5..7]);
+    packing::put_number(stated, &mut bytes[0..words::LENGTH_SIZE]);
+    bytes[words::LENGTH_SIZE] = words::VERSION;
+    packing::put_number(n, &mut bytes[words::HOURS_AT..words::HEADER_SIZE]);
 }
 
-// Writes the record of n hours with these P coefficients and P/2 codes into the first bytes of a buffer that has room
-// for it. The codes stand directly after the last coefficient. [forms 6]
+// Writes the record of n hours with these P coefficients, each of which three bytes hold, and P/2 codes into the first
+// bytes of a buffer that has room for it. The codes stand directly after the last coefficient. [forms 6]
 fn put_record(n: usize, coefficients: &[i32], codes: &[u8], bytes: &mut [u8])
     requires { ⌜ Ready n (now coefficients) (now codes) (length (now bytes)) ⌝ }
     ensures { λ _. ⌜ now (bytes .exit)
@@ -31,7 +32,7 @@ fn put_record(n: usize, coefficients: &[i32], codes: &[u8], bytes: &mut [u8])
     let size = sizes::record_size(places);
     put_header(size - words::LENGTH_SIZE, n, bytes);
     let at = words::HEADER_SIZE + 3 * places;
-    packing::pack(coefficients, &mut bytes[7..at]);
+    packing::pack(coefficients, &mut bytes[words::HEADER_SIZE..at]);
     bytes::copy(codes, &mut bytes[at..]);
 }
 

@@ -4,27 +4,25 @@ use lib.IntN.{pos}
 use mir.Facts.{toZ-ofZ}
 use Rattle.signed.proofs.Sums.{add-parts}
 use Rattle.signed.proofs.Rules.{signed}
-use Rattle.packing.proofs.Threes.{three-parts, bits-below, bits-above}
+use Rattle.packing.proofs.Threes.{bits-below, bits-above}
 use Rattle.packing.proofs.bits_of.Statement.{statement}
 use Rattle.packing.proofs.bits_of.Tie as tie
 
 add-result : tie.Need-add-result
 add-result c =
     let z = toZ-ofZ (c .before .fits .z) in
-    let p = three-parts (c .before .args .z) (c .before .pre) in
-    rw z (omega signed)
+    rw z (omega (signed, c .before .pre .0, c .before .pre .1))
 
 cast-result : tie.Need-cast-result
 cast-result c =
     let z = toZ-ofZ (c .before .fits .z) in
-    let p = three-parts (c .before .args .z) (c .before .pre) in
-    rw (toZ-ofZ (add-result c), z) (omega (signed, add-parts (c .before .args .z) (pos (2 ^ 24))))
+    rw (toZ-ofZ (add-result c), z)
+    (omega (signed, add-parts (c .before .args .z) (pos (2 ^ 24)), c .before .pre .0, c .before .pre .1))
 
 cast-result-2 : tie.Need-cast-result-2
 cast-result-2 c =
     let z = toZ-ofZ (c .before .fits .z) in
-    let p = three-parts (c .before .args .z) (c .before .pre) in
-    rw z (omega (signed, rw z at (c .if1 .left)))
+    rw z (omega (signed, rw z at (c .if1 .left), c .before .pre .1))
 
 returns : tie.Need-returns
 returns c =

@@ -1,10 +1,12 @@
 -- `coefficient_at` reads the three bytes of its place. Assumes nothing.
 use mathlib.Core.Path.{ap, _∙_}
+use Prim.Native.Nat.{_*_}
 use native.Mathlib.Omega.{arith}
 use borrow.Author.Needs.{needs}
 use Rattle.signed.proofs.Widths.{reads-back}
 use Rattle.om3.specs.Record.{numberFrom, signedOf}
-use Rattle.packing.proofs.Packed.{part-three, part-length}
+use Rattle.om3.proofs.RecordsForth.{part-length}
+use Rattle.packing.proofs.Packed.{part-three}
 use Rattle.packing.proofs.coefficient_at.Statement.{statement}
 use Rattle.packing.proofs.coefficient_at.Tie as tie
 
@@ -31,7 +33,7 @@ signed-of-requires c κs =
     let start = c .before .before .before in
     let bs = start .args .packed .now in
     let p = start .args .p in
-    rw (part-three bs p, part-length bs p (omega (arith, start .pre))) at (c .number-from .ensures .1)
+    rw (part-three bs p, part-length bs (3 * p) 3 (omega (arith, start .pre))) at (c .number-from .ensures .1)
 
 returns : tie.Need-returns
 returns c =

@@ -1,11 +1,12 @@
 -- `signed_of` takes 2^24 away from what is at least half of it. Assumes nothing.
-use mathlib.Core.Path.{_∙_}
+use mathlib.Core.Path.{sym, _∙_}
 use native.Mathlib.Omega.{arith}
 use borrow.Author.Needs.{needs}
 use mir.Syntax.{w32}
 use mir.Facts.{toZ-ofZ, toZ-pos}
 use Rattle.signed.proofs.Rules.{signed}
-use Rattle.packing.proofs.Threes.{signed-below, signed-above}
+use Rattle.om3.proofs.ThreeBytes.{signed-low}
+use Rattle.packing.proofs.Threes.{signed-above}
 use Rattle.packing.proofs.signed_of.Statement.{statement}
 use Rattle.packing.proofs.signed_of.Tie as tie
 
@@ -19,7 +20,7 @@ sub-result : tie.Need-sub-result
 sub-result c = let e = toZ-pos w32 {n = c .before .args .x} (omega arith) in omega signed
 
 returns : tie.Need-returns
-returns c = toZ-pos w32 (omega arith) ∙ signed-below (c .before .args .x) (omega arith)
+returns c = toZ-pos w32 (omega arith) ∙ sym (signed-low (c .before .args .x) (omega arith))
 
 returns-2 : tie.Need-returns-2
 returns-2 c =

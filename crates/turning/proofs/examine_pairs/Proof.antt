@@ -1,5 +1,4 @@
 -- `examine_pairs` examines the first pair, and the second only if the first is sound. Assumes nothing.
-use mathlib.Core.Path.{_≡_, sym, _∙_}
 use borrow.Author.Needs.{needs}
 use Rattle.turning.proofs.Examining as laws
 use Rattle.turning.proofs.examine_pairs.Statement.{statement}

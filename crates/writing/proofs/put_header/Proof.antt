@@ -1,5 +1,6 @@
 -- `put_header` puts one field after the other. Assumes nothing.
 use mathlib.Core.Path.{ap, _∙_}
+use native.Mathlib.Omega.{arith}
 use lib.ListN.{length}
 use borrow.Author.Needs.{needs}
 use Rattle.writing.proofs.Put as laws
@@ -32,7 +33,7 @@ part-put-number-end-2 c =
     let c2 = c .before .before in
     let start = c2 .before .before .before in
     let a = start .args in
-    laws.begun-room (a .stated) (a .n) (a .bytes .now) (start .pre) _ (c2 .put-number .ensures)
+    omega (arith, laws.begun-room (a .stated) (a .n) (a .bytes .now) (start .pre) _ (c2 .put-number .ensures))
 
 put-number-requires-2 : tie.Need-put-number-requires-2
 put-number-requires-2 c κs = search needs

@@ -15,7 +15,8 @@ use Rattle.om3.specs.Checks.{passes}
 use Rattle.om3.specs.Record.{Bytes, bytesOf, numberFrom, threeBytes, recordLength, recordOf, bytesAt, headerSize}
 use Rattle.om3.specs.Record.{InThree, hoursIn, coefficientIn, tableIn, openingChecks}
 use Rattle.om3.proofs.Lists.{map-up-length}
-use Rattle.om3.proofs.Bytes.{bytes-take, bytes-drop, number-small, bytes-forth, signed-small, three-forth}
+use Rattle.om3.proofs.Bytes.{bytes-take, bytes-drop, number-small, bytes-forth}
+use Rattle.om3.proofs.ThreeBytes.{signed-range, three-forth}
 use Rattle.om3.proofs.RecordsOpened.{WellFormed, opens-formed}
 
 -- Two parts of a list that meet are one part.
@@ -40,7 +41,7 @@ module _ (r : List ℕ) (bytes : Bytes r) where
   pub stated-three : (p : ℕ) → InThree (coefficientIn r p)
   stated-three p =
       let at = headerSize + 3 * p in
-      signed-small (numberFrom (bytesAt r at 3)) (part-small at 3)
+      signed-range (numberFrom (bytesAt r at 3)) (part-small at 3)
 
   -- A number read from w bytes is written in them again.
   field-again : (p w : ℕ) → p + w ≤ length r → bytesOf w (numberFrom (bytesAt r p w)) ≡ bytesAt r p w
@@ -104,10 +105,10 @@ module _ (r : List ℕ) (bytes : Bytes r) where
         (take-all (headerSize + 3 * P n + P n / 2) r (omega (arith, w .sized)))
 
 -- Bytes that are taken are the record of the table that they state.
-pub record-again : (r : List ℕ) → Bytes r → openingChecks r ≡ passes → recordOf (hoursIn r) (tableIn r) ≡ r
-record-again r bytes h = formed-again r bytes (opens-formed r h)
+pub record-forth : (r : List ℕ) → Bytes r → openingChecks r ≡ passes → recordOf (hoursIn r) (tableIn r) ≡ r
+record-forth r bytes h = formed-again r bytes (opens-formed r h)
 
 -- So the hours and the table decide the record.
 pub record-one : (r q : List ℕ) → Bytes r → Bytes q → openingChecks r ≡ passes → openingChecks q ≡ passes
     → hoursIn r ≡ hoursIn q → tableIn r ≡ tableIn q → r ≡ q
-record-one r q a b h k e f = sym (record-again r a h) ∙ ap₂ recordOf e f ∙ record-again q b k
+record-one r q a b h k e f = sym (record-forth r a h) ∙ ap₂ recordOf e f ∙ record-forth q b k
