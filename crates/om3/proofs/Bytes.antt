@@ -38,7 +38,7 @@ pub bytes-back : (w x : ℕ) → x < 256 ^ w → numberFrom (bytesOf w x) ≡ x
 bytes-back w x h = omega (arith, rw (div-eq-of-lt h) at (bytes-whole w x))
 
 -- Lists of bytes, put together and taken apart.
-pub bytes-tail : (b : ℕ) (bs : List ℕ) → Bytes (b ∷ bs) → Bytes bs
+bytes-tail : (b : ℕ) (bs : List ℕ) → Bytes (b ∷ bs) → Bytes bs
 bytes-tail b bs h p q = h (suc p) (omega arith)
 
 pub bytes-take : (w : ℕ) (bs : List ℕ) → Bytes bs → Bytes (take w bs)

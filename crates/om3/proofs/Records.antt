@@ -33,7 +33,7 @@ header-size stated n =
     )
 
 -- The bytes of signed numbers, three of each one: those of number p stand from place 3p on.
-pub threes-at : (zs : List ℤ) (rest : List ℕ) (p : ℕ) → p < length zs
+threes-at : (zs : List ℤ) (rest : List ℕ) (p : ℕ) → p < length zs
     → take 3 (drop (3 * p) (flatMap threeBytes zs ++ rest)) ≡ threeBytes (getD zs p (pos 0))
 unfolding flatMap bytesOf
 threes-at [] rest p h = absurd (omega arith)
@@ -42,7 +42,7 @@ threes-at (z ∷ zs) rest (suc p) h =
     let e : 3 * suc p ≡ suc (suc (suc (3 * p))) = omega arith in
     rw e (threes-at zs rest p (omega arith))
 
-pub threes-are : (zs : List ℤ) → Bytes (flatMap threeBytes zs)
+threes-are : (zs : List ℤ) → Bytes (flatMap threeBytes zs)
 unfolding flatMap
 threes-are [] = λ p h. absurd (omega arith)
 threes-are (z ∷ zs) = bytes-append (threeBytes z) (flatMap threeBytes zs) (bytes-are 3 _) (threes-are zs)
@@ -125,7 +125,7 @@ module _ (n : ℕ) (t : Table) where
 
     -- Coefficients that have room in three bytes are read back.
     module _ (small : (p : ℕ) → p < P n → InThree (getD (t .coefficients) p (pos 0))) where
-      pub record-coefficient-in : (p : ℕ) → p < P n → coefficientIn r p ≡ getD (t .coefficients) p (pos 0)
+      record-coefficient-in : (p : ℕ) → p < P n → coefficientIn r p ≡ getD (t .coefficients) p (pos 0)
       record-coefficient-in p h = ap signedFrom (record-threes p h) ∙ three-back _ (small p h)
 
       record-coefficients : map (coefficientIn r) (upFrom 0 (P n)) ≡ take (P n) (t .coefficients)

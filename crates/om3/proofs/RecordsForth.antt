@@ -2,21 +2,19 @@
 -- parts, of which each is what writing puts there. Assumes nothing.
 use mathlib.Core.Path.{_≡_, refl, sym, ap, ap₂, _∙_}
 use mathlib.Core.List.{List, _++_, map, flatMap}
-use Prim.Native.Nat.{ℕ, zero, suc, _+_, _*_, _/_, _^_, _≤_, _<_}
-use native.Mathlib.Nat.{pow-le-pow-right}
+use Prim.Native.Nat.{ℕ, zero, suc, _+_, _*_, _/_, _≤_}
 use native.Mathlib.Omega.{arith}
-use lib.Dec.{lit<}
-use lib.ListN.{length, take, drop, length-take, length-drop}
+use lib.ListN.{length, take, drop, length-drop}
 use lib.Seq.{length-take-le, take-add, take-all, drop-drop}
 use Rattle.words.specs.Constants.{version}
 use Rattle.om3.specs.Lists.{upFrom}
 use Rattle.om3.specs.Series.{P}
 use Rattle.om3.specs.Checks.{passes}
 use Rattle.om3.specs.Record.{Bytes, bytesOf, numberFrom, threeBytes, recordLength, recordOf, bytesAt, headerSize}
-use Rattle.om3.specs.Record.{InThree, hoursIn, coefficientIn, tableIn, openingChecks}
+use Rattle.om3.specs.Record.{hoursIn, coefficientIn, tableIn, openingChecks}
 use Rattle.om3.proofs.Lists.{map-up-length}
-use Rattle.om3.proofs.Bytes.{bytes-take, bytes-drop, number-small, bytes-forth}
-use Rattle.om3.proofs.ThreeBytes.{signed-range, three-forth}
+use Rattle.om3.proofs.Bytes.{bytes-take, bytes-drop, bytes-forth}
+use Rattle.om3.proofs.ThreeBytes.{three-forth}
 use Rattle.om3.proofs.RecordsOpened.{WellFormed, opens-formed}
 
 -- Two parts of a list that meet are one part.
@@ -31,18 +29,6 @@ part-bytes : (r : List ℕ) → Bytes r → (p w : ℕ) → Bytes (bytesAt r p w
 part-bytes r bytes p w = bytes-take w (drop p r) (bytes-drop p r bytes)
 
 module _ (r : List ℕ) (bytes : Bytes r) where
-  -- What w bytes spell is below 256^w, and what three spell has room in three.
-  pub part-small : (p w : ℕ) → numberFrom (bytesAt r p w) < 256 ^ w
-  part-small p w =
-      let most : length (bytesAt r p w) ≤ w = omega (arith, length-take w (drop p r)) in
-      let small = number-small (bytesAt r p w) (part-bytes r bytes p w) in
-      omega (arith, pow-le-pow-right {n = 256} (lit< tt) most)
-
-  pub stated-three : (p : ℕ) → InThree (coefficientIn r p)
-  stated-three p =
-      let at = headerSize + 3 * p in
-      signed-range (numberFrom (bytesAt r at 3)) (part-small at 3)
-
   -- A number read from w bytes is written in them again.
   field-again : (p w : ℕ) → p + w ≤ length r → bytesOf w (numberFrom (bytesAt r p w)) ≡ bytesAt r p w
   field-again p w h =

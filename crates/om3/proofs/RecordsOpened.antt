@@ -31,7 +31,7 @@ pub record WellFormed (r : List ℕ) : Type 0 where
   pub sized : length r ≡ recordSize (hoursIn r)
 
 module _ (r : List ℕ) where
-  pub formed-opens : WellFormed r → openingChecks r ≡ passes
+  formed-opens : WellFormed r → openingChecks r ≡ passes
   unfolding inOrder
   formed-opens w =
       let long : headerSize ≤ length r = omega (arith, w .sized) in

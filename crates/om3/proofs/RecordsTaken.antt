@@ -34,7 +34,7 @@ pub writing-decided : (n : ℕ) → badHours n ≡ false → (t : Table) (lent :
 unfolding inOrder
 writing-decided n good t lent room = rw (good, room) (then-passes (examineTable n t))
 
-pub reading-decided : (r : List ℕ) → openingChecks r ≡ passes → (lent : Table) → tableShort (hoursIn r) lent ≡ false
+reading-decided : (r : List ℕ) → openingChecks r ≡ passes → (lent : Table) → tableShort (hoursIn r) lent ≡ false
     → readingChecks r lent ≡ examineTable (hoursIn r) (tableIn r)
 reading-decided r opens lent room =
     unfold inOrder in rw (opens, room) (then-passes (examineTable (hoursIn r) (tableIn r)))
@@ -68,7 +68,7 @@ table-record n s t h =
     rw (h .coefficients, h .codes, made .coefficients, made .codes)
 
 -- A record that is read: the series that its table turns back to has it.
-pub taken-series : (r : List ℕ) → Bytes r → (lent : Table) → tableShort (hoursIn r) lent ≡ false
+taken-series : (r : List ℕ) → Bytes r → (lent : Table) → tableShort (hoursIn r) lent ≡ false
     → readingChecks r lent ≡ passes → (s : List ℤ) × Series (hoursIn r) s × HasRecord (hoursIn r) s r
 taken-series r bytes lent room h =
     let n = hoursIn r in
@@ -94,10 +94,10 @@ module _ (n : ℕ) (s : List ℤ) (series : Series n s) where
   made-ok : soundTable (levels n) n T ≡ true
   made-ok = has-sound n s T series (made-has n s)
 
-  pub made-hours : hoursIn (recordOf n T) ≡ n
+  made-hours : hoursIn (recordOf n T) ≡ n
   made-hours = record-hours-in n T (series .most)
 
-  pub made-table : tableIn (recordOf n T) ≡ T
+  made-table : tableIn (recordOf n T) ≡ T
   made-table =
       record-back n T (series .most) made-room made-ok
       ∙ (λ i. record { coefficients = made-has n s .coefficients i; codes = made-has n s .codes i })
@@ -124,7 +124,7 @@ module _ (n : ℕ) (r : List ℕ) (s : List ℤ) (series : Series n s) (has : Ha
   pub record-table : tableIn r ≡ tableOf (levels n) n s
   record-table = ap tableIn has ∙ made-table n s series
 
-  pub record-turned : turnedBack (levels n) (tableIn r) n ≡ s
+  record-turned : turnedBack (levels n) (tableIn r) n ≡ s
   record-turned = rw record-table (made-turned n s series)
 
 -- So only one series has it.

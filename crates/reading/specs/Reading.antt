@@ -1,6 +1,6 @@
 -- What reading a record promises. Cited by the contracts of this crate and of the boundary. Assumes nothing.
 --
---   PackedTable n bs ks   n is a number of hours, and bs and ks are the bytes of its P coefficients and P/2 codes
+--   PackedTable n bs qs   n is a number of hours, and bs and qs are the bytes of its P coefficients and P/2 codes
 --   partsChecks           the checks of reading that are left once the record is opened
 --   PartsRead             the contract of reading the parts of an opened record
 --   RecordRead            the contract of `read_record`: its answer, and the lent coefficients and codes whole
@@ -19,21 +19,21 @@ use Rattle.om3.specs.Calls.{writtenBy}
 use Rattle.om3.specs.Record.{hoursIn, tableIn, readingChecks, unpackingBy}
 use Rattle.packing.specs.Packing.{unpacked}
 
-pub record PackedTable (n : ℕ) (bs ks : List ℕ) : Type 0 where
+pub record PackedTable (n : ℕ) (bs qs : List ℕ) : Type 0 where
   pub most : n ≤ largestHours
   pub coefficients : length bs ≡ 3 * P n
-  pub codes : length ks ≡ P n / 2
+  pub codes : length qs ≡ P n / 2
 
 -- 3 and 4. [refusals 19]
-abbrev pub partsChecks : (n : ℕ) (bs ks : List ℕ) (cs : List ℤ) (ds : List ℕ) → Check
-partsChecks n bs ks cs ds =
-    inOrder (checkRoom (tableShort n (lent cs ds)) ∷ examineTable n (lent (unpacked bs) ks) ∷ [])
+abbrev pub partsChecks : (n : ℕ) (bs qs : List ℕ) (cs : List ℤ) (ks : List ℕ) → Check
+partsChecks n bs qs cs ks =
+    inOrder (checkRoom (tableShort n (lent cs ks)) ∷ examineTable n (lent (unpacked bs) qs) ∷ [])
 
-pub record PartsRead (n : ℕ) (bs ks : List ℕ) (cs : List ℤ) (ds : List ℕ) (cs′ : List ℤ) (ds′ : List ℕ)
+pub record PartsRead (n : ℕ) (bs qs : List ℕ) (cs : List ℤ) (ks : List ℕ) (cs′ : List ℤ) (ks′ : List ℕ)
     (r : Unpacking) : Type 0 where
-  pub answer : r ≡ unpackingBy (partsChecks n bs ks cs ds) n
-  pub coefficients : cs′ ≡ writtenBy (partsChecks n bs ks cs ds) (unpacked bs) cs
-  pub codes : ds′ ≡ writtenBy (partsChecks n bs ks cs ds) ks ds
+  pub answer : r ≡ unpackingBy (partsChecks n bs qs cs ks) n
+  pub coefficients : cs′ ≡ writtenBy (partsChecks n bs qs cs ks) (unpacked bs) cs
+  pub codes : ks′ ≡ writtenBy (partsChecks n bs qs cs ks) qs ks
 
 -- The record r becomes the table of its hours in the lent coefficients cs and codes ks.
 -- [refusals 14, 15, 16, 19] [statements 1]

@@ -153,7 +153,7 @@ module _ (r : List ℕ) (cs : List ℤ) (ks : List ℕ) (cs′ : List ℤ) (ks�
       rw (le-ltb (length cs′) (P k) wide, le-ltb (length ks′) (P k / 2) long)
 
   -- Opening it answers n and P ..
-  pub opened-read : openedRecord r ≡ Opening.Record n (P n)
+  opened-read : openedRecord r ≡ Opening.Record n (P n)
   unfolding openedRecord
   opened-read = rw (opens, stated-hours)
 

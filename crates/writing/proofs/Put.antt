@@ -32,7 +32,7 @@ module _ (stated n : ℕ) (old : List ℕ) (long : headerSize ≤ length old) wh
       )
 
   module _ (a : List ℕ) (e : a ≡ bytesOf (length (take 4 old)) stated) where
-    pub begun-put : set (a ++ drop 4 old) 4 version ≡ filled begun old
+    begun-put : set (a ++ drop 4 old) 4 version ≡ filled begun old
     unfolding bytesOf
     begun-put =
         let four : 4 ≤ length old = omega arith in
