@@ -23,6 +23,7 @@ pub mod TurnedBack
 pub mod Agreeing
 pub mod Demand2
 pub mod Making
+pub mod TableChecks
 pub mod Taken
 pub mod Bytes
 pub mod ThreeBytes

@@ -1,7 +1,7 @@
 -- Reading takes a record exactly if some series has it, and that series is the only one: a record that is taken is that
 -- of the table it states, and the table is sound exactly if some series has it. Assumes nothing.
 use mathlib.Core.Path.{_≡_, sym, ap, _∙_}
-use mathlib.Core.Bool.{true, false, _||_}
+use mathlib.Core.Bool.{true, false}
 use mathlib.Core.List.{List}
 use mathlib.Core.Logic.{_↔_}
 use Prim.Native.Nat.{ℕ, _+_, _*_, _/_, _≤_}
@@ -10,14 +10,14 @@ use lib.IntN.{ℤ}
 use lib.ListN.{length, take}
 use borrow.Author.Tests.{le-ltb}
 use Rattle.words.specs.Constants.{largestHours}
-use Rattle.om3.specs.Series.{Series, badHours, levels, P}
+use Rattle.om3.specs.Series.{Series, levels, P}
 use Rattle.om3.specs.Table.{Table, coefficient, codeOfPlace, tableOf, HasTable}
 use Rattle.om3.specs.Down.{turnedBack}
 use Rattle.om3.specs.Sound.{soundTable}
 use Rattle.om3.specs.Checks.{passes, inOrder}
-use Rattle.om3.specs.Refusals.{short, tableShort, examineTable}
-use Rattle.om3.specs.Record.{Bytes, recordSize, recordOf, HasRecord, headerSize, hoursIn, coefficientIn, tableIn}
-use Rattle.om3.specs.Record.{writingChecks, openingChecks, readingChecks}
+use Rattle.om3.specs.Refusals.{tableShort, examineTable}
+use Rattle.om3.specs.Record.{Bytes, recordOf, HasRecord, headerSize, hoursIn, coefficientIn, tableIn}
+use Rattle.om3.specs.Record.{openingChecks, readingChecks}
 use Rattle.om3.proofs.Lists.{map-up-length}
 use Rattle.om3.proofs.Levels.{levels-some}
 use Rattle.om3.proofs.Examined.{then-passes, order-parts, examine-sound}
@@ -28,12 +28,7 @@ use Rattle.om3.proofs.Records.{record-hours-in, record-table-in}
 use Rattle.om3.proofs.RecordsOpened.{opens-formed, record-opens}
 use Rattle.om3.proofs.RecordsForth.{part-length, record-forth}
 
--- With hours and room in order, the examination alone decides writing; with the fields and the room in order, reading.
-pub writing-decided : (n : ℕ) → badHours n ≡ false → (t : Table) (lent : ℕ)
-    → (tableShort n t || short lent (recordSize n)) ≡ false → writingChecks n t lent ≡ examineTable n t
-unfolding inOrder
-writing-decided n good t lent room = rw (good, room) (then-passes (examineTable n t))
-
+-- With the fields and the room in order, the examination alone decides reading.
 reading-decided : (r : List ℕ) → openingChecks r ≡ passes → (lent : Table) → tableShort (hoursIn r) lent ≡ false
     → readingChecks r lent ≡ examineTable (hoursIn r) (tableIn r)
 reading-decided r opens lent room =

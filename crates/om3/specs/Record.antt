@@ -21,7 +21,7 @@
 --   askedView r places p            what a view of the bytes r and of P = places answers when asked for place p
 --   askedRecord r p                 what a record answers when it is opened and asked for place p
 use mathlib.Core.Path.{_≡_}
-use mathlib.Core.Bool.{cond, not, _||_}
+use mathlib.Core.Bool.{cond, not}
 use mathlib.Core.List.{List, [], _∷_, _++_, map, flatMap}
 use Prim.Native.Nat.{ℕ, zero, suc, _+_, _-_, _*_, _/_, _%_, _^_, _<_}
 use lib.Dec.{leb, ltb, eqb}
@@ -38,7 +38,7 @@ use Rattle.om3.specs.Lists.{upFrom}
 use Rattle.om3.specs.Series.{levels, P}
 use Rattle.om3.specs.Table.{Table, tableOf}
 use Rattle.om3.specs.Checks.{Check, passes, refuses, refuseIf, inOrder}
-use Rattle.om3.specs.Refusals.{checkHours, checkRoom, short, tableShort, examineTable}
+use Rattle.om3.specs.Refusals.{checkHours, checkRoom, tableShort, examineTable, tableChecks}
 
 -- A byte is a number from 0 to 255.
 abbrev pub Bytes : List ℕ → Type 0
@@ -125,8 +125,7 @@ tableIn r = record {
 
 -- Writing a record: 1, 3, 4, with `lent` bytes lent for it. [refusals 15, 18]
 abbrev pub writingChecks : ℕ → Table → ℕ → Check
-writingChecks n t lent =
-    inOrder (checkHours n ∷ checkRoom (tableShort n t || short lent (recordSize n)) ∷ examineTable n t ∷ [])
+writingChecks n t lent = tableChecks n t lent (recordSize n)
 
 -- A successful writing answers the number of bytes of the record.
 abbrev pub writingBy : Check → ℕ → Writing

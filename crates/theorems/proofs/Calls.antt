@@ -1,78 +1,54 @@
 -- Demand 2 for the calls: what their contracts say of a table that is turned back, and of going there and back. Assumes
 -- nothing.
---
---   WithRoom n cs ks out   n is a number of hours, and each buffer lent for turning back is long enough
 use mathlib.Core.Path.{_≡_, sym, ap, _∙_}
-use mathlib.Core.Bool.{true, false, _||_}
+use mathlib.Core.Bool.{true, false}
 use mathlib.Core.List.{List}
 use mathlib.Core.Logic.{_↔_}
 use Prim.Native.Nat.{ℕ, _/_, _≤_}
 use lib.IntN.{ℤ}
 use lib.ListN.{length, getD, take}
 use lib.Seq.{getD-take}
-use borrow.Author.Tests.{le-ltb, ltb-false}
+use borrow.Author.Tests.{le-ltb}
 use Rattle.words.specs.Constants.{largestHours, gap}
-use Rattle.words.specs.declared.Refusal.the-variants.{ShortBuffer}
 use Rattle.words.specs.declared.Taking.{Taking}
 use Rattle.om3.specs.Series.{Holds, Series, levels, P}
 use Rattle.om3.specs.Table.{Table, coefficient, codeOfPlace, tableOf, HasTable, lent}
 use Rattle.om3.specs.Down.{turnedBack}
-use Rattle.om3.specs.Checks.{passes, inOrder}
+use Rattle.om3.specs.Checks.{passes}
 use Rattle.om3.specs.Sound.{soundTable}
-use Rattle.om3.specs.Refusals.{short, tableShort, checkHours, checkRoom, examineTable}
+use Rattle.om3.specs.Refusals.{tableShort}
 use Rattle.om3.specs.Refusals.{makingChecks, turningBackChecks}
 use Rattle.om3.specs.Calls.{filled}
-use Rattle.om3.proofs.Tests.{neither}
 use Rattle.om3.proofs.Filled.{filled-first, filled-room}
 use Rattle.om3.proofs.Lists.{map-up-length}
-use Rattle.om3.proofs.Examined.{examine-sound, then-first, then-second, refuse-not}
+use Rattle.om3.proofs.Examined.{examine-sound}
+use Rattle.om3.proofs.TableChecks.{Enough, decided, table-room, passed}
 use Rattle.om3.proofs.TurnedBack.{turned-length}
 use Rattle.om3.proofs.Demand2 as demand2
-use Rattle.om3.proofs.Making.{hours-some, making-series}
-use Rattle.om3.proofs.Taken.{taken-passes, good-hours, making-decided, turning-decided, readings-pass, table-first}
+use Rattle.om3.proofs.Making.{good-some, making-series}
+use Rattle.om3.proofs.Taken.{taken-passes, good-hours, making-decided, readings-pass, table-first}
 use Rattle.making.specs.Making.{Made}
 use Rattle.turning.specs.Turning.{TurnedBack}
 
-pub record WithRoom (n : ℕ) (cs : List ℤ) (ks : List ℕ) (out : List ℤ) : Type 0 where
-  pub some : 1 ≤ n
-  pub most : n ≤ largestHours
-  pub table : tableShort n (lent cs ks) ≡ false
-  pub hours : n ≤ length out
-
--- Turning back.
+-- Turning back, with hours and room in order.
 module _ (n : ℕ) (cs : List ℤ) (ks : List ℕ) (out : List ℤ) where
   abbrev T : Table
   T = lent cs ks
 
-  -- Taken only with room.
-  taken-room : turningBackChecks n T (length out) ≡ passes → WithRoom n cs ks out
-  unfolding inOrder
-  taken-room e =
-      let few = hours-some n (then-first (checkHours n) _ e) in
-      let rest = then-second (checkHours n) _ e in
-      let three = checkRoom (tableShort n T || short (length out) n) in
-      let enough = refuse-not (tableShort n T || short (length out) n) ShortBuffer (then-first three _ rest) in
-      let parts = neither (tableShort n T) (short (length out) n) enough in
-      record { some = few .0; most = few .1; table = parts .0; hours = ltb-false (length out) n (parts .1) }
-
-  module _ (room : WithRoom n cs ks out) where
-    decided : turningBackChecks n T (length out) ≡ examineTable n T
-    decided =
-        turning-decided n (good-hours n (room .some) (room .most)) T (length out)
-        (rw (room .table, le-ltb (length out) n (room .hours)))
-
-    passes-sound : turningBackChecks n T (length out) ≡ passes → soundTable (levels n) n T ≡ true
-    passes-sound e = examine-sound (levels n) n T .0 (sym decided ∙ e)
+  module _ (room : Enough n cs ks (length out) n) where
+    abbrev few : (1 ≤ n) × (n ≤ largestHours)
+    few = good-some n (room .good)
 
     sound-passes : soundTable (levels n) n T ≡ true → turningBackChecks n T (length out) ≡ passes
-    sound-passes s = decided ∙ examine-sound (levels n) n T .1 s
+    sound-passes s = decided n cs ks (length out) n room ∙ examine-sound (levels n) n T .1 s
 
     module _ (out′ : List ℤ) (r : Taking) (done : TurnedBack n cs ks out out′ r) where
       -- It is taken exactly if some series of n hours has the table ..
       pub taken-exactly : (r ≡ Taking.Taken) ↔ ((s : List ℤ) × Series n s × HasTable n s T)
       taken-exactly =
-          let exactly = demand2.sound-exactly n (room .some) (room .most) T (room .table) in (
-            λ e. exactly .0 (passes-sound (taken-passes _ (sym e ∙ done .answer))),
+          let exactly = demand2.sound-exactly n (few .0) (few .1) T (table-room n cs ks (length out) n room) in
+          let passes-sound = examine-sound (levels n) n T .0 in (
+            λ e. exactly .0 (passes-sound (passed n cs ks (length out) n (taken-passes _ (sym e ∙ done .answer)) .1)),
             λ h. rw (sound-passes (exactly .1 h)) at (done .answer),
           )
 
@@ -120,17 +96,16 @@ module _ (n : ℕ) where
           codes = ap (take (P n / 2)) pairs ∙ filled-first _ ks _ pairs-length;
         }
 
-    table-room : tableShort n (lent cs′ ks′) ≡ false
-    table-room =
-        let a : P n ≤ length cs′ = rw details (filled-room (tableOf l n first .coefficients) cs _ details-length) in
-        let b : P n / 2 ≤ length ks′ = rw pairs (filled-room (tableOf l n first .codes) ks _ pairs-length) in
-        rw (le-ltb (length cs′) (P n) a, le-ltb (length ks′) (P n / 2) b)
-
     pub turned-back-after : (out out′ : List ℤ) (r : Taking) → n ≤ length out → TurnedBack n cs′ ks′ out out′ r
         → (r ≡ Taking.Taken) × (out′ ≡ filled first out)
     turned-back-after out out′ r hours done =
-        let room : WithRoom n cs′ ks′ out =
-        record { some = first-series .some; most = first-series .most; table = table-room; hours = hours } in (
+        let room : Enough n cs′ ks′ (length out) n =
+        record {
+          good = good-hours n (first-series .some) (first-series .most);
+          coefficients = rw details (filled-room (tableOf l n first .coefficients) cs _ details-length);
+          codes = rw pairs (filled-room (tableOf l n first .codes) ks _ pairs-length);
+          buffer = hours;
+        } in (
           taken-exactly n cs′ ks′ out room out′ r done .1 (first, first-series, has-table),
           writes-series n cs′ ks′ out room out′ r done first first-series has-table,
         )
@@ -140,20 +115,24 @@ module _ (n : ℕ) where
     turned-passes : turningBackChecks n (lent cs ks) (length out) ≡ passes
     turned-passes = taken-passes _ (done .answer)
 
-    abbrev room : WithRoom n cs ks out
-    room = taken-room n cs ks out turned-passes
+    abbrev room : Enough n cs ks (length out) n
+    room = passed n cs ks (length out) n turned-passes .0
+
+    abbrev many : (1 ≤ n) × (n ≤ largestHours)
+    many = good-some n (room .good)
+
+    is-sound : soundTable l n (lent cs ks) ≡ true
+    is-sound = examine-sound l n (lent cs ks) .0 (passed n cs ks (length out) n turned-passes .1)
 
     abbrev again : List ℤ
     again = turnedBack l (lent cs ks) n
 
     again-series : Series n again
-    again-series =
-        demand2.turned-series n (room .some) (room .most) (lent cs ks) (passes-sound n cs ks out room turned-passes)
+    again-series = demand2.turned-series n (many .0) (many .1) (lent cs ks) is-sound
 
     again-has : HasTable n again (lent cs ks)
     again-has =
-        demand2.turned-has n (room .some) (room .most) (lent cs ks) (passes-sound n cs ks out room turned-passes)
-        (room .table)
+        demand2.turned-has n (many .0) (many .1) (lent cs ks) is-sound (table-room n cs ks (length out) n room)
 
     written : out′ ≡ filled again out
     written = rw turned-passes at (done .hours)
@@ -174,7 +153,7 @@ module _ (n : ℕ) where
       made-again : makingChecks n out′ (lent cs₁ ks₁) ≡ passes
       made-again =
           let size : n ≤ length out′ = rw written (filled-room again out n (turned-length l (lent cs ks) n)) in
-          making-decided n (good-hours n (room .some) (room .most)) out′ (lent cs₁ ks₁)
+          making-decided n (room .good) out′ (lent cs₁ ks₁)
           (rw (le-ltb (length out′) n size) room₁)
           ∙ readings-pass n out′ out-holds
 

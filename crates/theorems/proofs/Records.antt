@@ -1,35 +1,35 @@
 -- Demand 2 for the calls of the record: what their contracts say of a record that is read, of one that was written, and
 -- of single coefficients. Assumes nothing.
 use mathlib.Core.Path.{_≡_, refl, sym, ap, _∙_}
-use mathlib.Core.Bool.{Bool, false, _||_}
-use mathlib.Core.List.{List, [], _∷_}
+use mathlib.Core.Bool.{false}
+use mathlib.Core.List.{List}
 use mathlib.Core.Logic.{_↔_}
 use Prim.Native.Nat.{ℕ, _+_, _*_, _/_, _≤_, _<_}
 use native.Mathlib.Omega.{arith}
 use lib.IntN.{ℤ, pos}
 use lib.ListN.{length, getD, take, List·getD-append}
 use borrow.Author.Tests.{lt-leb, le-ltb}
-use Rattle.words.specs.declared.Refusal.the-variants.{BadHours, ShortBuffer}
+use Rattle.words.specs.declared.Refusal.the-variants.{ShortBuffer}
 use Rattle.words.specs.declared.Writing.{Writing}
 use Rattle.words.specs.declared.Unpacking.{Unpacking}
 use Rattle.words.specs.declared.Opening.{Opening}
 use Rattle.words.specs.declared.Asking.{Asking}
-use Rattle.om3.specs.Series.{Series, badHours, levels, P}
+use Rattle.om3.specs.Series.{Series, levels, P}
 use Rattle.om3.specs.Table.{Table, coefficient, codeOfPlace, tableOf, HasTable, lent}
 use Rattle.om3.specs.Checks.{Check, passes, refuses, inOrder}
-use Rattle.om3.specs.Refusals.{short, tableShort, checkRoom, examineTable}
+use Rattle.om3.specs.Refusals.{tableShort, examineTable}
 use Rattle.om3.specs.Calls.{filled}
 use Rattle.om3.specs.Record.{Bytes, recordSize, recordOf, HasRecord, headerSize, hoursIn, tableIn}
 use Rattle.om3.specs.Record.{writingChecks, writingBy, openingChecks, readingChecks, unpackingBy}
 use Rattle.om3.specs.Record.{openedRecord, askedView, askedRecord}
 use Rattle.om3.proofs.Lists.{map-up-length}
 use Rattle.om3.proofs.Making.{good-some}
-use Rattle.om3.proofs.Tests.{neither}
 use Rattle.om3.proofs.Examined.{order-parts, first-absent, examine-sound}
+use Rattle.om3.proofs.TableChecks.{Enough, decided, table-room, passed}
 use Rattle.om3.proofs.Filled.{filled-first, filled-room}
 use Rattle.om3.proofs.Records.{record-size}
 use Rattle.om3.proofs.RecordsOpened.{opens-formed, asked-unpacked}
-use Rattle.om3.proofs.RecordsTaken.{writing-decided, opened-room, table-record, made-read}
+use Rattle.om3.proofs.RecordsTaken.{opened-room, table-record, made-read}
 use Rattle.om3.proofs.RecordsTaken.{reading-exactly, record-hours, record-table}
 use Rattle.om3.proofs.Demand2 as demand2
 use Rattle.opening.proofs.Asked.{opened-asked}
@@ -78,28 +78,21 @@ module _ (n : ℕ) (cs : List ℤ) (ks out out′ : List ℕ) (b : ℕ)
   written-checks : (writingChecks n T (length out) ≡ passes) × (b ≡ recordSize n)
   written-checks = written-passes (writingChecks n T (length out)) n b (done .answer)
 
-  abbrev isShort : Bool
-  isShort = tableShort n T || short (length out) (recordSize n)
+  both-right : Enough n cs ks (length out) (recordSize n) × (examineTable n T ≡ passes)
+  both-right = passed n cs ks (length out) (recordSize n) (written-checks .0)
 
-  hours-right : (badHours n ≡ false) × (inOrder (checkRoom isShort ∷ examineTable n T ∷ []) ≡ passes)
-  hours-right = first-absent (badHours n) BadHours _ (written-checks .0)
-
-  room-right : (isShort ≡ false) × (inOrder (examineTable n T ∷ []) ≡ passes)
-  room-right = first-absent isShort ShortBuffer _ (hours-right .1)
-
-  table-room : tableShort n T ≡ false
-  table-room = neither (tableShort n T) (short (length out) (recordSize n)) (room-right .0) .0
+  room-right : tableShort n T ≡ false
+  room-right = table-room n cs ks (length out) (recordSize n) (both-right .0)
 
   some-series : (s : List ℤ) × Series n s × HasTable n s T
   some-series =
-      let few = good-some n (hours-right .0) in
-      let sound = examine-sound (levels n) n T .0 (order-parts (examineTable n T) [] (room-right .1) .0) in
-      demand2.sound-exactly n (few .0) (few .1) T table-room .0 sound
+      let few = good-some n (both-right .0 .good) in
+      demand2.sound-exactly n (few .0) (few .1) T room-right .0 (examine-sound (levels n) n T .0 (both-right .1))
 
   -- The bytes written are its record.
   written-record : take b out′ ≡ recordOf n T
   written-record =
-      let size = record-size n T table-room ∙ sym (written-checks .1) in
+      let size = record-size n T room-right ∙ sym (written-checks .1) in
       ap (take b) (rw (written-checks .0) at (done .bytes)) ∙ filled-first (recordOf n T) out b size
 
   -- Reading them gives the same table and n.
@@ -141,16 +134,14 @@ module _ (r : List ℕ) (cs : List ℤ) (ks : List ℕ) (cs′ : List ℤ) (ks�
       first-absent (tableShort (hoursIn r) (lent cs ks)) ShortBuffer _
       (order-parts (openingChecks r) _ read-checks .1) .0
 
-  left-room : tableShort (hoursIn r) (lent cs′ ks′) ≡ false
+  left-room : (P (hoursIn r) ≤ length cs′) × (P (hoursIn r) / 2 ≤ length ks′)
   left-room =
       let k = hoursIn r in
       let t = tableIn r in
       let room = opened-room r opens in
       let a = rw (sym (rw read-checks at (done .coefficients))) at (filled-room (t .coefficients) cs _ refl) in
       let b = rw (sym (rw read-checks at (done .codes))) at (filled-room (t .codes) ks _ refl) in
-      let wide : P k ≤ length cs′ = omega (arith, a, demand2.coefficients-there k t room) in
-      let long : P k / 2 ≤ length ks′ = omega (arith, b, demand2.codes-there k t room) in
-      rw (le-ltb (length cs′) (P k) wide, le-ltb (length ks′) (P k / 2) long)
+      (omega (arith, a, demand2.coefficients-there k t room), omega (arith, b, demand2.codes-there k t room))
 
   -- Opening it answers n and P ..
   opened-read : openedRecord r ≡ Opening.Record n (P n)
@@ -196,13 +187,19 @@ module _ (r : List ℕ) (cs : List ℤ) (ks : List ℕ) (cs′ : List ℤ) (ks�
         → writingChecks (hoursIn r) (lent cs′ ks′) (length out) ≡ passes
     write-checks out fits =
         let k = hoursIn r in
-        let s = its-series .0 in
         let series = its-series .1 in
-        let sound = demand2.has-sound k s (lent cs′ ks′) series (left-table s series (its-series .2)) in
-        let size = opens-formed r opens .sized in
-        let long = le-ltb (length out) (recordSize k) (omega arith) in
-        writing-decided k (opens-formed r opens .timed) (lent cs′ ks′) (length out) (rw (left-room, long))
-        ∙ examine-sound (levels k) k (lent cs′ ks′) .1 sound
+        let has = left-table (its-series .0) series (its-series .2) in
+        let w = opens-formed r opens in
+        let size = w .sized in
+        let room : Enough k cs′ ks′ (length out) (recordSize k) =
+        record {
+          good = w .timed;
+          coefficients = left-room .0;
+          codes = left-room .1;
+          buffer = omega arith;
+        } in
+        decided k cs′ ks′ (length out) (recordSize k) room
+        ∙ examine-sound (levels k) k (lent cs′ ks′) .1 (demand2.has-sound k (its-series .0) (lent cs′ ks′) series has)
 
     -- Written again from the table that reading left, it is the same record.
     pub write-after-read : (out out′ : List ℕ) (w : Writing) → length r ≤ length out

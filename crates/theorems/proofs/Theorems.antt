@@ -18,6 +18,7 @@ use Rattle.om3.specs.Refusals.{tableShort}
 use Rattle.om3.specs.Calls.{filled}
 use Rattle.om3.specs.Checks.{passes}
 use Rattle.om3.specs.Record.{Bytes, HasRecord, hoursIn, tableIn, openingChecks, askedRecord}
+use Rattle.om3.proofs.TableChecks.{Enough}
 use Rattle.om3.proofs.Demand2 as demand2
 use Rattle.om3.proofs.RecordsForth as forth
 use Rattle.om3.proofs.RecordsTaken as taken
@@ -33,16 +34,15 @@ only-series : (n : ℕ) (t : Table) (s u : List ℤ) → Series n s → HasTable
 only-series = demand2.only-series
 
 -- So is one record, and one table has one record.
-only-series-of-record : (n : ℕ) (r : List ℕ) (s u : List ℤ)
-    → Series n s → HasRecord n s r → Series n u → HasRecord n u r → s ≡ u
-only-series-of-record = taken.record-series
+one-series : (n : ℕ) (r : List ℕ) (s u : List ℤ) → Series n s → HasRecord n s r → Series n u → HasRecord n u r → s ≡ u
+one-series = taken.record-series
 
 one-record : (r q : List ℕ) → Bytes r → Bytes q → openingChecks r ≡ passes → openingChecks q ≡ passes
     → hoursIn r ≡ hoursIn q → tableIn r ≡ tableIn q → r ≡ q
 one-record = forth.record-one
 
 -- With room lent, turning back takes a table exactly if some series of n hours has it ..
-module _ (n : ℕ) (cs : List ℤ) (ks : List ℕ) (out : List ℤ) (room : calls.WithRoom n cs ks out)
+module _ (n : ℕ) (cs : List ℤ) (ks : List ℕ) (out : List ℤ) (room : Enough n cs ks (length out) n)
     (out′ : List ℤ) (r : Taking) (done : TurnedBack n cs ks out out′ r) where
   turn-back-exactly : (r ≡ Taking.Taken) ↔ ((s : List ℤ) × Series n s × HasTable n s (lent cs ks))
   turn-back-exactly = calls.taken-exactly n cs ks out room out′ r done

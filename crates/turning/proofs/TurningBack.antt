@@ -7,7 +7,6 @@ use native.Mathlib.Omega.{arith}
 use lib.IntN.{ℤ, pos}
 use lib.ListN.{length, getD, take, drop}
 use lib.Seq.{length-take-le}
-use borrow.Author.Tests.{lt-ltb, le-ltb}
 use Rattle.words.specs.declared.NodeId.{NodeId}
 use Rattle.words.specs.declared.Range.{Range}
 use Rattle.words.specs.declared.Refusal.{Refusal}
@@ -16,7 +15,7 @@ use Rattle.words.specs.declared.Taking.{Taking}
 use Rattle.om3.specs.Lists.{every}
 use Rattle.om3.specs.Series.{badHours, levels, P}
 use Rattle.om3.specs.Nodes.{root}
-use Rattle.om3.specs.Checks.{Check, passes, refuses, inOrder}
+use Rattle.om3.specs.Checks.{Check, passes, refuses}
 use Rattle.om3.specs.Sound.{soundRootValues, nodesBelow, soundTable, soundNode}
 use Rattle.om3.specs.Refusals.{examineTable, turningBackChecks}
 use Rattle.om3.proofs.Making.{good-some}
@@ -24,7 +23,9 @@ use Rattle.om3.proofs.Tests.{and-right}
 use Rattle.om3.proofs.Levels.{n≤P}
 use Rattle.om3.proofs.Located.{root-located}
 use Rattle.om3.proofs.TurnedBack.{turned-length}
-use Rattle.om3.proofs.Examined.{then-passes, examine-sound}
+use Rattle.om3.proofs.Examined.{examine-sound}
+use Rattle.om3.proofs.TableChecks.{Enough}
+use Rattle.om3.proofs.TableChecks as checked
 use Rattle.node.specs.declared.Root.{Root}
 use Rattle.node.specs.Steps.{rootOf}
 use Rattle.turning.specs.declared.Verdict.{Verdict}
@@ -33,61 +34,36 @@ use Rattle.turning.specs.Turning.{checkOf, Written, TurnedBack}
 use Rattle.turning.proofs.AtRoot.{root-unsound, root-reached}
 use Rattle.turning.proofs.AllWritten.{all-written}
 
--- Checks 1 and 3 of turning back pass.
-pub record Enough (n : ℕ) (cs : List ℤ) (ks : List ℕ) (out : List ℤ) : Type 0 where
-  pub good : badHours n ≡ false
-  pub coefficients : P n ≤ length cs
-  pub codes : P n / 2 ≤ length ks
-  pub hours : n ≤ length out
-
--- The answers of turning back, its checks in their order.
 module _ (n : ℕ) (cs : List ℤ) (ks : List ℕ) (out : List ℤ) where
   abbrev checks : Check
   checks = turningBackChecks n (lent cs ks) (length out)
 
+  -- A refusal leaves the hours as they were.
   refused : (why : Refusal) → checks ≡ refuses why → TurnedBack n cs ks out out (Taking.Refused why)
   refused why e = record { answer = rw e; hours = rw e }
 
   pub bad-hours : badHours n ≡ true → TurnedBack n cs ks out out (Taking.Refused refusal.BadHours)
-  unfolding inOrder
-  bad-hours b = refused refusal.BadHours (rw b)
+  bad-hours b = refused refusal.BadHours (checked.bad-hours n cs ks (length out) n b)
 
-  -- n is a number of hours, and p is P.
   module _ (good : badHours n ≡ false) (p : ℕ) (e : p ≡ P n) where
-    pub few-coefficients : length cs < p → TurnedBack n cs ks out out (Taking.Refused refusal.ShortBuffer)
-    unfolding inOrder
+    abbrev Short : Type 0
+    Short = TurnedBack n cs ks out out (Taking.Refused refusal.ShortBuffer)
+
+    pub few-coefficients : length cs < p → Short
     few-coefficients h =
-        refused refusal.ShortBuffer (rw (good, lt-ltb (length cs) (P n) (rw e at h)))
+        refused refusal.ShortBuffer (checked.few-coefficients n cs ks (length out) n good p e h)
 
-    module _ (wide : p ≤ length cs) where
-      pub few-codes : length ks < p / 2 → TurnedBack n cs ks out out (Taking.Refused refusal.ShortBuffer)
-      unfolding inOrder
-      few-codes h =
-          let w = le-ltb (length cs) (P n) (rw e at wide) in
-          refused refusal.ShortBuffer (rw (good, w, lt-ltb (length ks) (P n / 2) (rw e at h)))
+    pub few-codes : p ≤ length cs → length ks < p / 2 → Short
+    few-codes w h = refused refusal.ShortBuffer (checked.few-codes n cs ks (length out) n good p e w h)
 
-      module _ (long : p / 2 ≤ length ks) where
-        pub few-hours : length out < n → TurnedBack n cs ks out out (Taking.Refused refusal.ShortBuffer)
-        unfolding inOrder
-        few-hours h =
-            let w = le-ltb (length cs) (P n) (rw e at wide) in
-            let k = le-ltb (length ks) (P n / 2) (rw e at long) in
-            refused refusal.ShortBuffer
-            (rw (good, w, k, lt-ltb (length out) n h))
-
-        pub enough : n ≤ length out → Enough n cs ks out
-        enough h =
-            record { good = good; coefficients = rw e at wide; codes = rw e at long; hours = h }
+    pub few-hours : p ≤ length cs → p / 2 ≤ length ks → length out < n → Short
+    few-hours w k h =
+        refused refusal.ShortBuffer (checked.short-buffer n cs ks (length out) n good p e w k h)
 
   -- Only the table itself is still to examine.
-  module _ (h : Enough n cs ks out) where
+  module _ (h : Enough n cs ks (length out) n) where
     examined : checks ≡ examineTable n (lent cs ks)
-    unfolding inOrder
-    examined =
-        let w = le-ltb (length cs) (P n) (h .coefficients) in
-        let k = le-ltb (length ks) (P n / 2) (h .codes) in
-        rw (h .good, w, k, le-ltb (length out) n (h .hours))
-        (then-passes (examineTable n (lent cs ks)))
+    examined = checked.decided n cs ks (length out) n h
 
     pub unsound-refused : (r : Verdict) → checkOf r ≡ examineTable n (lent cs ks) → (i : NodeId) → r ≡ Verdict.Unsound i
         → TurnedBack n cs ks out out (Taking.Refused (refusal.Unsound i))
@@ -114,7 +90,7 @@ module _ (n : ℕ) (cs : List ℤ) (ks : List ℕ) (out : List ℤ) where
           let at = rw (← pe) at (root-located l) in
           let w = rw z at (W .below l n root at (root-reached n cs ks range q) nodes-sound) in
           let most = n≤P n (good-some n (h .good) .1) in
-          let f = w ∙ all-written l (lent cs ks) n (take n out) most (length-take-le n out (h .hours)) in
+          let f = w ∙ all-written l (lent cs ks) n (take n out) most (length-take-le n out (h .buffer)) in
           record {
             answer = rw (examined ∙ taken);
             hours = rw (examined ∙ taken, turned-length l (lent cs ks) n, f);

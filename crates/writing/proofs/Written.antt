@@ -8,14 +8,13 @@ use native.Mathlib.Omega.{arith}
 use lib.IntN.{ℤ, pos}
 use lib.ListN.{length, take}
 use lib.Seq.{length-take-le, getD-take, take-take}
-use borrow.Author.Tests.{lt-ltb, le-ltb}
 use Rattle.words.specs.declared.NodeId.{NodeId}
 use Rattle.words.specs.declared.Refusal.{Refusal}
 use Rattle.words.specs.declared.Refusal.the-variants as refusal
 use Rattle.words.specs.declared.Writing.{Writing}
 use Rattle.om3.specs.Series.{badHours, levels, P}
 use Rattle.om3.specs.Table.{lent}
-use Rattle.om3.specs.Checks.{Check, passes, refuses, inOrder}
+use Rattle.om3.specs.Checks.{Check, passes, refuses}
 use Rattle.om3.specs.Refusals.{examineTable}
 use Rattle.om3.specs.Calls.{filled}
 use Rattle.om3.specs.Record.{lengthFor, recordSize, recordOf, writingChecks}
@@ -23,65 +22,43 @@ use Rattle.om3.proofs.Making.{good-some}
 use Rattle.om3.proofs.Levels.{levels-some}
 use Rattle.om3.proofs.Examined.{examine-sound}
 use Rattle.om3.proofs.Threes.{sound-threes}
-use Rattle.om3.proofs.RecordsTaken.{writing-decided}
+use Rattle.om3.proofs.TableChecks.{Enough}
+use Rattle.om3.proofs.TableChecks as checked
 use Rattle.packing.specs.Packing.{EachInThree}
 use Rattle.turning.specs.declared.Verdict.{Verdict}
 use Rattle.turning.specs.Turning.{checkOf}
 use Rattle.writing.specs.Writing.{Ready, RecordWritten}
 
--- Checks 1 and 3 of writing pass.
-pub record Enough (n : ℕ) (cs : List ℤ) (ks out : List ℕ) : Type 0 where
-  pub good : badHours n ≡ false
-  pub coefficients : P n ≤ length cs
-  pub codes : P n / 2 ≤ length ks
-  pub bytes : recordSize n ≤ length out
-
 module _ (n : ℕ) (cs : List ℤ) (ks out : List ℕ) where
   abbrev checks : Check
   checks = writingChecks n (lent cs ks) (length out)
 
+  -- A refusal leaves the bytes as they were.
   refused : (why : Refusal) → checks ≡ refuses why → RecordWritten n cs ks out out (Writing.Refused why)
   refused why e = record { answer = rw e; bytes = rw e }
 
   pub bad-hours : badHours n ≡ true → RecordWritten n cs ks out out (Writing.Refused refusal.BadHours)
-  unfolding inOrder
-  bad-hours b = refused refusal.BadHours (rw b)
+  bad-hours b = refused refusal.BadHours (checked.bad-hours n cs ks (length out) (recordSize n) b)
 
-  -- n is a number of hours, and p is P.
   module _ (good : badHours n ≡ false) (p : ℕ) (e : p ≡ P n) where
-    pub few-coefficients : length cs < p → RecordWritten n cs ks out out (Writing.Refused refusal.ShortBuffer)
-    unfolding inOrder
-    few-coefficients h = refused refusal.ShortBuffer (rw (good, lt-ltb (length cs) (P n) (rw e at h)))
+    abbrev Short : Type 0
+    Short = RecordWritten n cs ks out out (Writing.Refused refusal.ShortBuffer)
 
-    module _ (wide : p ≤ length cs) where
-      pub few-codes : length ks < p / 2 → RecordWritten n cs ks out out (Writing.Refused refusal.ShortBuffer)
-      unfolding inOrder
-      few-codes h =
-          let w = le-ltb (length cs) (P n) (rw e at wide) in
-          refused refusal.ShortBuffer (rw (good, w, lt-ltb (length ks) (P n / 2) (rw e at h)))
+    pub few-coefficients : length cs < p → Short
+    few-coefficients h =
+        refused refusal.ShortBuffer (checked.few-coefficients n cs ks (length out) (recordSize n) good p e h)
 
-      module _ (long : p / 2 ≤ length ks) (size : ℕ) (f : size ≡ 4 + lengthFor p) where
-        whole : size ≡ recordSize n
-        whole = rw e at f
+    pub few-codes : p ≤ length cs → length ks < p / 2 → Short
+    few-codes w h = refused refusal.ShortBuffer (checked.few-codes n cs ks (length out) (recordSize n) good p e w h)
 
-        pub few-bytes : length out < size → RecordWritten n cs ks out out (Writing.Refused refusal.ShortBuffer)
-        unfolding inOrder
-        few-bytes h =
-            let w = le-ltb (length cs) (P n) (rw e at wide) in
-            let k = le-ltb (length ks) (P n / 2) (rw e at long) in
-            refused refusal.ShortBuffer (rw (good, w, k, lt-ltb (length out) (recordSize n) (rw whole at h)))
-
-        pub enough : size ≤ length out → Enough n cs ks out
-        enough h =
-            record { good = good; coefficients = rw e at wide; codes = rw e at long; bytes = rw whole at h }
+    pub few-bytes : p ≤ length cs → p / 2 ≤ length ks → length out < recordSize n → Short
+    few-bytes w k h =
+        refused refusal.ShortBuffer (checked.short-buffer n cs ks (length out) (recordSize n) good p e w k h)
 
   -- Only the table itself is still to examine.
-  module _ (h : Enough n cs ks out) where
+  module _ (h : Enough n cs ks (length out) (recordSize n)) where
     examined : checks ≡ examineTable n (lent cs ks)
-    examined =
-        let w = le-ltb (length cs) (P n) (h .coefficients) in
-        let k = le-ltb (length ks) (P n / 2) (h .codes) in
-        writing-decided n (h .good) (lent cs ks) (length out) (rw (w, k, le-ltb (length out) (recordSize n) (h .bytes)))
+    examined = checked.decided n cs ks (length out) (recordSize n) h
 
     pub unsound-refused : (r : Verdict) → checkOf r ≡ examineTable n (lent cs ks) → (i : NodeId) → r ≡ Verdict.Unsound i
         → RecordWritten n cs ks out out (Writing.Refused (refusal.Unsound i))
@@ -106,7 +83,7 @@ module _ (n : ℕ) (cs : List ℤ) (ks out : List ℕ) where
             coefficients = length-take-le (P n) cs (h .coefficients);
             threes = first-threes;
             codes = length-take-le (P n / 2) ks (h .codes);
-            room = h .bytes;
+            room = h .buffer;
           })
 
       pub record-written : (size : ℕ) → size ≡ 4 + lengthFor p → (out′ : List ℕ)

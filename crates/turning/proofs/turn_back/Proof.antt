@@ -11,6 +11,7 @@ use borrow.Author.Needs.{needs}
 use Rattle.om3.proofs.Making.{good-some}
 use Rattle.om3.proofs.Levels.{2≤P, P-even}
 use Rattle.om3.specs.Series.{badHours}
+use Rattle.om3.proofs.TableChecks.{Enough, enough}
 use Rattle.node.specs.declared.Root.{Root}
 use Rattle.node.specs.Steps.{rootOf}
 use Rattle.turning.proofs.AtRoot.{root-read, root-readings}
@@ -25,10 +26,10 @@ good c = sym (c .before .bad-hours .ensures) ∙ c .if1 .left
 -- Checks 1 and 3 have passed.
 fits : (c : tie.Else4) →
     (let a = c .before .before .before .before .before .before .before .args in
-    laws.Enough (a .n) (a .coefficients .now) (a .codes .now) (a .hours .now))
+    Enough (a .n) (a .coefficients .now) (a .codes .now) (length (a .hours .now)) (a .n))
 fits c =
     let c3 = c .before .before .before in
-    laws.enough _ _ _ _ (good (c3 .before)) _ (c3 .places .ensures)
+    enough _ _ _ _ _ (good (c3 .before)) _ (c3 .places .ensures)
     (c .before .before .if2 .left) (c .before .if3 .left) (c .if4 .left)
 
 -- What node 1's range is told to be, for the root values as they stand in the coefficients.
@@ -149,9 +150,10 @@ returns-7 c =
     let c2 = c .before .before in
     let c5 = c2 .before .before .before in
     let c7 = c5 .before .before in
+    let out = c7 .before .before .before .before .before .before .before .before .args .hours .now in
     let r = root-told c2 (c .enum-told2 .given .1) in
     absurd
-    (laws.root-not-unsound _ _ _ _ (fits (c7 .before)) _ (c7 .examine .ensures) (c5 .enum-told .given .1) r)
+    (laws.root-not-unsound _ _ _ out (fits (c7 .before)) _ (c7 .examine .ensures) (c5 .enum-told .given .1) r)
 
 pub turn-back-spec : {M : Type 1} → statement M
 turn-back-spec =

@@ -2,9 +2,12 @@
 -- of a sound table. Assumes nothing.
 use mathlib.Core.Path.{_≡_, sym, _∙_}
 use mathlib.Core.Bool.{false}
+use lib.ListN.{length}
 use lib.Seq.{length-take-le}
 use borrow.Author.Needs.{needs}
 use Rattle.om3.specs.Series.{badHours}
+use Rattle.om3.specs.Record.{recordSize}
+use Rattle.om3.proofs.TableChecks.{Enough, enough}
 use Rattle.om3.proofs.Making.{good-some}
 use Rattle.om3.proofs.Levels.{P-most}
 use Rattle.writing.proofs.Written as laws
@@ -18,12 +21,13 @@ good c = sym (c .before .bad-hours .ensures) ∙ c .if1 .left
 -- Checks 1 and 3 have passed.
 fits : (c : tie.Else4) →
     (let a = c .before .before .before .before .before .before .before .before .before .args in
-    laws.Enough (a .n) (a .coefficients .now) (a .codes .now) (a .bytes .now))
+    Enough (a .n) (a .coefficients .now) (a .codes .now) (length (a .bytes .now)) (recordSize (a .n)))
 fits c =
     let c2 = c .before .before in
     let c4 = c2 .before .before in
-    laws.enough _ _ _ _ (good (c4 .before)) _ (c4 .places .ensures) (c2 .before .if2 .left) (c2 .if3 .left) _
-    (c .before .record-size .ensures) (c .if4 .left)
+    let size = rw (c4 .places .ensures) at (c .before .record-size .ensures) in
+    enough _ _ _ _ _ (good (c4 .before)) _ (c4 .places .ensures) (c2 .before .if2 .left) (c2 .if3 .left)
+    (rw size at (c .if4 .left))
 
 bad-hours-requires : tie.Need-bad-hours-requires
 bad-hours-requires c κs = search needs
@@ -52,8 +56,9 @@ returns-4 : tie.Need-returns-4
 returns-4 c =
     let c2 = c .before .before in
     let c4 = c2 .before .before in
-    laws.few-bytes _ _ _ _ (good (c4 .before)) _ (c4 .places .ensures) (c2 .before .if2 .left) (c2 .if3 .left) _
-    (c .before .record-size .ensures) (c .if4 .taken)
+    let size = rw (c4 .places .ensures) at (c .before .record-size .ensures) in
+    laws.few-bytes _ _ _ _ (good (c4 .before)) _ (c4 .places .ensures) (c2 .before .if2 .left) (c2 .if3 .left)
+    (rw size at (c .if4 .taken))
 
 examine-requires : tie.Need-examine-requires
 examine-requires c κs =
@@ -86,7 +91,9 @@ put-record-requires c κs =
     let c3 = c .before .before .before in
     let c5 = c3 .before .before in
     let c10 = c5 .before .before .before .before .before in
-    laws.ready _ _ _ _ (fits (c5 .before)) _ (c5 .examine .ensures) (c3 .enum-told .given .1) _ (c10 .places .ensures)
+    let a = c10 .before .before .before .before .before .args in
+    laws.ready _ _ _ (a .bytes .now) (fits (c5 .before)) _ (c5 .examine .ensures) (c3 .enum-told .given .1) _
+    (c10 .places .ensures)
 
 same-length : tie.Need-same-length
 same-length c = search needs
