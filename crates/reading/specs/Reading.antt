@@ -1,15 +1,19 @@
 -- What reading a record promises. Cited by the contracts of this crate and of the boundary. Assumes nothing.
 --
+--   halvesIn cs i range   what the step down from node i answers, with its details as they stand in cs
+--   FourExamined          the contract of the examination of a node of four hours and its two pairs
 --   PackedTable n bs qs   n is a number of hours, and bs and qs are the bytes of its P coefficients and P/2 codes
 --   partsChecks           the checks of reading that are left once the record is opened
 --   PartsRead             the contract of reading the parts of an opened record
 --   RecordRead            the contract of `read_record`: its answer, and the lent coefficients and codes whole
 use mathlib.Core.Path.{_≡_}
 use mathlib.Core.List.{List, [], _∷_}
-use Prim.Native.Nat.{ℕ, _/_, _*_, _≤_}
-use lib.IntN.{ℤ}
-use lib.ListN.{length}
+use Prim.Native.Nat.{ℕ, _+_, _*_, _/_, _≤_, _<_}
+use lib.IntN.{ℤ, pos}
+use lib.ListN.{length, getD}
 use Rattle.words.specs.Constants.{largestHours}
+use Rattle.words.specs.declared.NodeId.{NodeId}
+use Rattle.words.specs.declared.Range.{Range}
 use Rattle.words.specs.declared.Unpacking.{Unpacking}
 use Rattle.om3.specs.Series.{P}
 use Rattle.om3.specs.Table.{lent}
@@ -17,7 +21,18 @@ use Rattle.om3.specs.Checks.{Check, inOrder}
 use Rattle.om3.specs.Refusals.{tableShort, checkRoom, examineTable}
 use Rattle.om3.specs.Calls.{writtenBy}
 use Rattle.om3.specs.Record.{hoursIn, tableIn, readingChecks, unpackingBy}
+use Rattle.node.specs.declared.Halves.{Halves}
+use Rattle.node.specs.Steps.{halvesOf}
+use Rattle.turning.specs.declared.Verdict.{Verdict}
+use Rattle.turning.specs.Turning.{Examined}
 use Rattle.packing.specs.Packing.{unpacked}
+
+abbrev pub halvesIn : List ℤ → NodeId → Range → Halves
+halvesIn cs i range = halvesOf range (getD cs (2 * i .0) (pos 0)) (getD cs (2 * i .0 + 1) (pos 0))
+
+pub record FourExamined (n : ℕ) (cs : List ℤ) (ks : List ℕ) (i : NodeId) (f : ℕ) (range : Range)
+    (r : Verdict) : Type 0 where
+  pub four : (w : ℕ) → 4 ≤ w → w < 8 → Examined n cs ks i f w range r
 
 pub record PackedTable (n : ℕ) (bs qs : List ℕ) : Type 0 where
   pub most : n ≤ largestHours

@@ -17,10 +17,47 @@ ghost use Rattle.om3.specs.Table.{lent};
 ghost use Rattle.om3.specs.Refusals.{examineTable};
 ghost use Rattle.turning.specs.Turning.{checkOf, Examined};
 ghost use Rattle.packing.specs.Packing.{unpacked};
-ghost use Rattle.reading.specs.Reading.{PackedTable, PartsRead, RecordRead};
+ghost use Rattle.reading.specs.Reading.{halvesIn, FourExamined, PackedTable, PartsRead};
+ghost use Rattle.reading.specs.Reading.{RecordRead};
 
-// Examines node i of packed coefficients, which covers `hours` hours from t on and has this range, and then all nodes
-// below it, whose details and codes are there: each before its halves, left before right. [forms 8]
+// What the step down from node i answers. Its details are there, at the numbers of its halves.
+fn halves_at(packed: &[u8], i: NodeId, range: Range) -> Halves
+    requires { ⌜ Readings range ⌝ }
+    requires { ⌜ 2 * i .0 + 2 ≤ length (now packed) / 3 ⌝ }
+    ensures { λ r. ⌜ r ≡ halvesIn (unpacked (now (packed .entry))) i range ⌝ }
+{
+    let low_place = 2 * i.0;
+    let high_place = low_place + 1;
+    let low_detail = packing::coefficient_at(packed, low_place);
+    let high_detail = packing::coefficient_at(packed, high_place);
+    node::half_ranges(range, low_detail, high_detail)
+}
+
+// Examines node i, which covers four hours from t on and has this range, and then its two pairs. Its details and their
+// codes are there.
+fn examine_four(
+    n: usize,
+    packed: &[u8],
+    codes: &[u8],
+    i: NodeId,
+    t: Timestamp,
+    range: Range,
+) -> Verdict
+    requires { ⌜ Readings range ⌝ }
+    requires { ⌜ 2 * i .0 + 2 ≤ length (now packed) / 3 ⌝ }
+    requires { ⌜ t .0 + 4 ≤ 2 * length (now codes) ⌝ }
+    ensures { λ r. ⌜ FourExamined n (unpacked (now (packed .entry))) (now (codes .entry)) i (t .0) range r ⌝ }
+{
+    let left_number = 2 * i.0;
+    let halves = halves_at(packed, i, range);
+    let Halves::Sound { left, right } = halves else {
+        return Verdict::Unsound(i);
+    };
+    turning::examine_pairs(n, codes, NodeId(left_number), t, left, right)
+}
+
+// Examines node i, which covers `hours` hours from t on, at least eight, and has this range, and then all nodes below
+// it, whose details and codes are there: each before its halves, left before right. [forms 8]
 fn examine_below(
     n: usize,
     packed: &[u8],
@@ -30,30 +67,35 @@ fn examine_below(
     hours: usize,
     range: Range,
 ) -> Verdict
-    requires { ⌜ 2 ≤ hours ⌝ }
+    requires { ⌜ 8 ≤ hours ⌝ }
     requires { ⌜ Readings range ⌝ }
     requires { ⌜ (i .0 + 1) * (hours / 2) ≤ length (now packed) / 3 ⌝ }
     requires { ⌜ t .0 + hours ≤ 2 * length (now codes) ⌝ }
     ensures { λ r. ⌜ Examined n (unpacked (now (packed .entry))) (now (codes .entry)) i (t .0) hours range r ⌝ }
 {
     let at = t.0;
-    if hours < 4 {
-        return turning::examine_pair(n, codes, i, t, range);
-    }
-    // The details of a node stand at the numbers of its halves.
     let left_number = 2 * i.0;
     let right_number = left_number + 1;
-    let low_detail = packing::coefficient_at(packed, left_number);
-    let high_detail = packing::coefficient_at(packed, right_number);
-    let halves = node::half_ranges(range, low_detail, high_detail);
+    let halves = halves_at(packed, i, range);
     let Halves::Sound { left, right } = halves else {
         return Verdict::Unsound(i);
     };
-    if hours < 8 {
-        return turning::examine_pairs(n, codes, NodeId(left_number), t, left, right);
-    }
     let half = hours / 2;
     let middle = at + half;
+    if hours < 16 {
+        let verdict = examine_four(n, packed, codes, NodeId(left_number), t, left);
+        if let Verdict::Unsound(k) = verdict {
+            return Verdict::Unsound(k);
+        }
+        return examine_four(
+            n,
+            packed,
+            codes,
+            NodeId(right_number),
+            Timestamp(middle),
+            right,
+        );
+    }
     let first = examine_below(
         n,
         packed,
@@ -88,6 +130,12 @@ fn examine(n: usize, packed: &[u8], codes: &[u8]) -> Verdict
         return Verdict::Unsound(NodeId(0));
     };
     let places = sizes::places(n);
+    if places < 4 {
+        return turning::examine_pair(n, codes, NodeId(1), Timestamp(0), range);
+    }
+    if places < 8 {
+        return examine_four(n, packed, codes, NodeId(1), Timestamp(0), range);
+    }
     examine_below(n, packed, codes, NodeId(1), Timestamp(0), places, range)
 }
 

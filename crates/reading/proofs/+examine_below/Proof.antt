@@ -1,25 +1,21 @@
 -- `examine_below` examines the node it is at and then both its halves, the left one first, with the ranges reached
--- there; its details are read from their bytes. Assumes nothing.
-use mathlib.Core.Path.{_≡_, _∙_}
+-- there; halves of four hours without calling itself. Assumes nothing.
+use mathlib.Core.Path.{_≡_, sym, _∙_}
 use Prim.Native.Nat.{ℕ, _+_, _*_, _/_, _≤_, _<_}
 use native.Mathlib.Omega.{arith}
-use lib.IntN.{pos}
-use lib.ListN.{length, getD}
+use lib.ListN.{length}
 use borrow.Fn.Kinds.{In}
 use borrow.Fn.PlainCycle.{Measures, is, falls, and}
 use borrow.Author.Needs.{needs}
-use Rattle.signed.proofs.Widths.{reads-back}
 use Rattle.om3.proofs.Rooms.{places-room, left-room, right-room}
-use Rattle.node.specs.Steps.{halvesOf}
-use Rattle.node.proofs.half_ranges.Reads as half-ranges-reads
+use Rattle.node.specs.declared.Halves.{Halves}
 use Rattle.turning.proofs.Examining as laws
-use Rattle.turning.proofs.examine_pair.Reads as examine-pair-reads
-use Rattle.turning.proofs.examine_pairs.Reads as examine-pairs-reads
 use Rattle.packing.specs.Packing.{unpacked}
-use Rattle.packing.proofs.coefficient_at.Reads as coefficient-at-reads
-use Rattle.reading.proofs.Examining.{details-read}
+use Rattle.reading.specs.Reading.{halvesIn}
 use Rattle.reading.proofs.examine_below.Reads as own
 use Rattle.reading.proofs.examine_below.Kinds as kinds
+use Rattle.reading.proofs.examine_four.Reads as examine-four-reads
+use Rattle.reading.proofs.halves_at.Reads as halves-at-reads
 use Rattle.reading.proofs.+examine_below.Lts-examine_below as lts
 use Rattle.reading.proofs.+examine_below.{statement}
 use Rattle.reading.proofs.+examine_below.Tie.{close}
@@ -35,63 +31,44 @@ below t = and 2 kinds.ps (falls 2 kinds.ps _<_ hoursOf t) own.Pre
 
 abbrev callees : ℕ → lts.Claims
 callees t = (
-  examine-pair-reads.Asked,
-  examine-pair-reads.Learnt,
-  coefficient-at-reads.Asked,
-  coefficient-at-reads.Learnt,
-  half-ranges-reads.Asked,
-  half-ranges-reads.Learnt,
-  examine-pairs-reads.Asked,
-  examine-pairs-reads.Learnt,
+  halves-at-reads.Asked,
+  halves-at-reads.Learnt,
+  examine-four-reads.Asked,
+  examine-four-reads.Learnt,
   below t,
   own.Post,
 )
 
--- Both details of a node of two halves stand in the coefficients.
-room : (t : ℕ) (c : lts.Else1 (callees t) (at t) own.Post)
-    → 2 * c .before .before .before .args .i .0 + 2 ≤ length (c .before .before .before .args .packed .now) / 3
+-- The node is no pair, and both its details stand in the coefficients.
+wide : (t : ℕ) (c : lts.Start (callees t) (at t) own.Post) → 4 ≤ c .args .hours
+wide t c = omega (arith, c .pre)
+
+room : (t : ℕ) (c : lts.Start (callees t) (at t) own.Post) → 2 * c .args .i .0 + 2 ≤ length (c .args .packed .now) / 3
 room t c =
-    let start = c .before .before .before in
-    let w : 2 ≤ start .args .hours / 2 = omega (arith, c .if1 .left) in
-    places-room _ _ _ w (start .pre .1 .1 .1 .0)
+    let two : 2 ≤ c .args .hours / 2 = omega (arith, c .pre) in
+    places-room _ _ _ two (c .pre .1 .1 .1 .0)
 
--- What the step down answers, for the details as they stand among the unpacked coefficients.
-step : (t : ℕ) (c : lts.After-half-ranges (callees t) (at t) own.Post) →
-    (let a = c .before .before .before .before .before .before .before .args in
-    let cs = unpacked (a .packed .now) in
-    halvesOf (a .range) (getD cs (2 * a .i .0) (pos 0)) (getD cs (2 * a .i .0 + 1) (pos 0)))
-    ≡ c .half-ranges .result
-step t c =
-    let x = c .before .before .coefficient-at in
-    let y = c .before .coefficient-at2 in
-    let a = c .before .before .before .before .before .before .before .args in
-    details-read (a .packed .now) (a .range) (a .i .0) (room t (c .before .before .before .before))
-    (reads-back (x .result) (x .ok) ∙ x .ensures)
-    (reads-back (y .result) (y .ok) ∙ y .ensures)
-    (c .half-ranges .ensures)
-
-examine-pair-requires : (t : ℕ) → lts.Need-examine-pair-requires (callees t) (at t) own.Post
-examine-pair-requires t c κs = omega (arith, c .before .before .before .pre)
-
-returns : (t : ℕ) → lts.Need-returns (callees t) (at t) own.Post
-returns t c =
-    let c2 = c .before in
-    c .examine-pair .ensures .pair _ _ (c2 .before .before .before .pre .1 .0) (c2 .if1 .taken)
+-- What the step down answers: these are the halves.
+step : (t : ℕ) (c : lts.After-halves (callees t) (at t) own.Post) →
+    (let a = c .before .before .before .before .before .before .args in
+    halvesIn (unpacked (a .packed .now)) (a .i) (a .range))
+    ≡ Halves.Sound (c .halves .given .0 .0) (c .halves .given .0 .1 .0)
+step t c = sym (c .before .before .halves-at .ensures) ∙ c .halves .given .1
 
 mul-left-number : (t : ℕ) → lts.Need-mul-left-number (callees t) (at t) own.Post
-mul-left-number t c = omega (arith, room t (c .before), c .before .before .before .before .good)
+mul-left-number t c =
+    let start = c .before .before .before in
+    omega (arith, room t start, start .good)
 
 add-right-number : (t : ℕ) → lts.Need-add-right-number (callees t) (at t) own.Post
-add-right-number t c = omega (arith, room t (c .before), c .before .before .before .before .good)
+add-right-number t c =
+    let start = c .before .before .before in
+    omega (arith, room t start, start .good)
 
-coefficient-at-requires : (t : ℕ) → lts.Need-coefficient-at-requires (callees t) (at t) own.Post
-coefficient-at-requires t c κs = omega (arith, room t (c .before))
-
-coefficient-at-requires-2 : (t : ℕ) → lts.Need-coefficient-at-requires-2 (callees t) (at t) own.Post
-coefficient-at-requires-2 t c κs = omega (arith, room t (c .before .before))
-
-half-ranges-requires : (t : ℕ) → lts.Need-half-ranges-requires (callees t) (at t) own.Post
-half-ranges-requires t c κs = c .before .before .before .before .before .before .pre .1 .1 .0
+halves-at-requires : (t : ℕ) → lts.Need-halves-at-requires (callees t) (at t) own.Post
+halves-at-requires t c κs =
+    let start = c .before .before .before in
+    (start .pre .1 .1 .0, room t start)
 
 enum-known-halves : (t : ℕ) → lts.Need-enum-known-halves (callees t) (at t) own.Post
 enum-known-halves t c = search needs
@@ -99,42 +76,72 @@ enum-known-halves t c = search needs
 enum-told : (t : ℕ) → lts.Need-enum-told (callees t) (at t) own.Post
 enum-told t c = search needs
 
+returns : (t : ℕ) → lts.Need-returns (callees t) (at t) own.Post
+returns t c =
+    let c2 = c .before .before in
+    let start = c2 .before .before .before .before in
+    laws.details-unsound _ _ _ _ _ _ _ (wide t start) (sym (c2 .halves-at .ensures) ∙ c .enum-told .given .1)
+
+add-middle : (t : ℕ) → lts.Need-add-middle (callees t) (at t) own.Post
+add-middle t c =
+    let start = c .before .before .before .before .before .before .before in
+    omega (arith, start .pre, start .good)
+
+examine-four-requires : (t : ℕ) → lts.Need-examine-four-requires (callees t) (at t) own.Post
+examine-four-requires t c κs =
+    let start = c .before .before .before .before .before .before .before .before in
+    let a = start .args in
+    let p = start .pre in
+    let h = step t (c .before .before) in
+    let r = laws.left-readings (a .range) (unpacked (a .packed .now)) (a .i .0) (p .1 .1 .0) h in
+    let two : 2 ≤ a .hours / 2 / 2 = omega (arith, p) in
+    (r, (places-room _ _ _ two (left-room _ _ _ (p .1 .1 .1 .0)), omega (arith, p)))
+
+enum-known-verdict : (t : ℕ) → lts.Need-enum-known-verdict (callees t) (at t) own.Post
+enum-known-verdict t c = search needs
+
 returns-2 : (t : ℕ) → lts.Need-returns-2 (callees t) (at t) own.Post
 returns-2 t c =
-    let c2 = c .before .before in
-    let c6 = c2 .before .before .before .before in
-    laws.details-unsound _ _ _ _ _ _ _ (c6 .if1 .left) (step t c2 ∙ c .enum-told .given .1)
+    let c3 = c .before .before .before in
+    let c4 = c3 .before in
+    let start = c4 .before .before .before .before .before .before .before .before in
+    laws.left-unsound _ _ _ _ _ _ _ (wide t start) _ _ (step t (c4 .before .before)) _
+    (c3 .examine-four .ensures .four _ (omega (arith, start .pre)) (omega (arith, c4 .if1 .taken))) _
+    (c .before .verdict .given .1)
 
-examine-pairs-requires : (t : ℕ) → lts.Need-examine-pairs-requires (callees t) (at t) own.Post
-examine-pairs-requires t c κs =
-    let c8 = c .before .before .before .before .before .before .before .before in
-    let start = c8 .before .before .before in
-    (omega (arith, room t c8, start .good), omega (arith, c8 .if1 .left, start .pre))
+enum-told-2 : (t : ℕ) → lts.Need-enum-told-2 (callees t) (at t) own.Post
+enum-told-2 t c = search needs
+
+examine-four-requires-2 : (t : ℕ) → lts.Need-examine-four-requires-2 (callees t) (at t) own.Post
+examine-four-requires-2 t c κs =
+    let c3 = c .before .before .before in
+    let start = c3 .before .before .before .before .before .before .before .before in
+    let a = start .args in
+    let p = start .pre in
+    let h = step t (c3 .before .before) in
+    let r = laws.right-readings (a .range) (unpacked (a .packed .now)) (a .i .0) (p .1 .1 .0) h in
+    let two : 2 ≤ a .hours / 2 / 2 = omega (arith, p) in
+    (r, (places-room _ _ _ two (right-room _ _ _ (p .1 .1 .1 .0)), omega (arith, p)))
 
 returns-3 : (t : ℕ) → lts.Need-returns-3 (callees t) (at t) own.Post
 returns-3 t c =
     let c3 = c .before .before .before in
-    let c5 = c3 .before .before in
-    let c9 = c5 .before .before .before .before in
-    laws.pairs-examined _ _ _ _ _ _ _ (c9 .if1 .left) (c .before .if2 .taken) _ _ (step t c5 ∙ c3 .halves .given .1) _
-    (c .examine-pairs .ensures)
-
-add-middle : (t : ℕ) → lts.Need-add-middle (callees t) (at t) own.Post
-add-middle t c =
-    let c6 = c .before .before .before .before .before .before in
-    let start = c6 .before .before .before .before .before in
-    omega (arith, start .pre, start .good)
+    let c4 = c3 .before in
+    let start = c4 .before .before .before .before .before .before .before .before in
+    let four : 4 ≤ start .args .hours / 2 = omega (arith, start .pre) in
+    let eight : start .args .hours / 2 < 8 = omega (arith, c4 .if1 .taken) in
+    laws.then-right _ _ _ _ _ _ _ (wide t start) _ _ (step t (c4 .before .before)) _
+    (c3 .examine-four .ensures .four _ four eight) (c .before .enum-told2 .given .1) _
+    (c .examine-four2 .ensures .four _ four eight)
 
 examine-below-requires : (t : ℕ) → lts.Need-examine-below-requires (callees t) (at t) own.Post
 examine-below-requires t c κs =
-    let c2 = c .before .before in
-    let c4 = c2 .before .before in
-    let c8 = c4 .before .before .before .before in
-    let a = c8 .before .before .before .args in
-    let p = c8 .before .before .before .pre in
-    let w = c8 .if1 .left in
-    let h = step t c4 ∙ c2 .halves .given .1 in
+    let start = c .before .before .before .before .before .before .before .before in
+    let a = start .args in
+    let p = start .pre in
+    let h = step t (c .before .before) in
     let r = laws.left-readings (a .range) (unpacked (a .packed .now)) (a .i .0) (p .1 .1 .0) h in
+    let w = c .if1 .left in
     (omega (arith, p), (omega arith, (r, (left-room _ _ _ (p .1 .1 .1 .0), omega (arith, p)))))
 
 enum-known-first : (t : ℕ) → lts.Need-enum-known-first (callees t) (at t) own.Post
@@ -143,56 +150,53 @@ enum-known-first t c = search needs
 returns-4 : (t : ℕ) → lts.Need-returns-4 (callees t) (at t) own.Post
 returns-4 t c =
     let c3 = c .before .before .before in
-    let c6 = c3 .before .before .before in
-    let c8 = c6 .before .before in
-    let c12 = c8 .before .before .before .before in
-    laws.left-unsound _ _ _ _ _ _ _ (c12 .if1 .left) _ _ (step t c8 ∙ c6 .halves .given .1) _
+    let c4 = c3 .before in
+    let start = c4 .before .before .before .before .before .before .before .before in
+    laws.left-unsound _ _ _ _ _ _ _ (wide t start) _ _ (step t (c4 .before .before)) _
     (c3 .examine-below .ensures) _ (c .before .first .given .1)
 
-enum-told-2 : (t : ℕ) → lts.Need-enum-told-2 (callees t) (at t) own.Post
-enum-told-2 t c = search needs
+enum-told-3 : (t : ℕ) → lts.Need-enum-told-3 (callees t) (at t) own.Post
+enum-told-3 t c = search needs
 
 examine-below-requires-2 : (t : ℕ) → lts.Need-examine-below-requires-2 (callees t) (at t) own.Post
 examine-below-requires-2 t c κs =
-    let c5 = c .before .before .before .before .before in
-    let c7 = c5 .before .before in
-    let c11 = c7 .before .before .before .before in
-    let a = c11 .before .before .before .args in
-    let p = c11 .before .before .before .pre in
-    let w = c11 .if1 .left in
-    let h = step t c7 ∙ c5 .halves .given .1 in
+    let c3 = c .before .before .before in
+    let start = c3 .before .before .before .before .before .before .before .before in
+    let a = start .args in
+    let p = start .pre in
+    let h = step t (c3 .before .before) in
     let r = laws.right-readings (a .range) (unpacked (a .packed .now)) (a .i .0) (p .1 .1 .0) h in
+    let w = c3 .if1 .left in
     (omega (arith, p), (omega arith, (r, (right-room _ _ _ (p .1 .1 .1 .0), omega (arith, p)))))
 
 returns-5 : (t : ℕ) → lts.Need-returns-5 (callees t) (at t) own.Post
 returns-5 t c =
     let c3 = c .before .before .before in
-    let c6 = c3 .before .before .before in
-    let c8 = c6 .before .before in
-    let c12 = c8 .before .before .before .before in
-    laws.then-right _ _ _ _ _ _ _ (c12 .if1 .left) _ _ (step t c8 ∙ c6 .halves .given .1) _ (c3 .examine-below .ensures)
-    (c .before .enum-told2 .given .1) _ (c .examine-below2 .ensures)
+    let c4 = c3 .before in
+    let start = c4 .before .before .before .before .before .before .before .before in
+    laws.then-right _ _ _ _ _ _ _ (wide t start) _ _ (step t (c4 .before .before)) _ (c3 .examine-below .ensures)
+    (c .before .enum-told3 .given .1) _ (c .examine-below2 .ensures)
 
 pub +examine-below-spec : {M : Type 1} → statement M
 +examine-below-spec =
     close hoursOf λ t.
     lts.spec (callees t) (at t) own.Post
-    (examine-pair-requires t)
-    (returns t)
     (mul-left-number t)
     (add-right-number t)
-    (coefficient-at-requires t)
-    (coefficient-at-requires-2 t)
-    (half-ranges-requires t)
+    (halves-at-requires t)
     (enum-known-halves t)
     (enum-told t)
-    (returns-2 t)
-    (examine-pairs-requires t)
-    (returns-3 t)
+    (returns t)
     (add-middle t)
+    (examine-four-requires t)
+    (enum-known-verdict t)
+    (returns-2 t)
+    (enum-told-2 t)
+    (examine-four-requires-2 t)
+    (returns-3 t)
     (examine-below-requires t)
     (enum-known-first t)
     (returns-4 t)
-    (enum-told-2 t)
+    (enum-told-3 t)
     (examine-below-requires-2 t)
     (returns-5 t)

@@ -1,12 +1,13 @@
 -- `examine` examines node 0, which gives node 1 its range, and then node 1 and all below it. Assumes nothing.
 use mathlib.Core.Path.{_≡_, _∙_}
-use Prim.Native.Nat.{_/_, _≤_}
+use Prim.Native.Nat.{ℕ, _*_, _/_, _≤_}
 use native.Mathlib.Omega.{arith}
 use lib.IntN.{pos}
 use lib.ListN.{length, getD}
 use borrow.Author.Needs.{needs}
 use Rattle.signed.proofs.Widths.{reads-back}
 use Rattle.om3.proofs.Levels.{2≤P, P-even}
+use Rattle.node.specs.declared.Root.{Root}
 use Rattle.node.specs.Steps.{rootOf}
 use Rattle.turning.proofs.AtRoot as laws
 use Rattle.packing.specs.Packing.{unpacked}
@@ -29,6 +30,29 @@ root-told c =
     (reads-back (x .result) (x .ok) ∙ x .ensures)
     (reads-back (y .result) (y .ok) ∙ y .ensures)
     (c .root-range .ensures)
+
+-- Node 1 has this range.
+root-sound : (c : tie.After-places) →
+    (let cs = unpacked (c .before .before .before .before .before .before .before .before .before .args .packed .now) in
+    rootOf (getD cs 0 (pos 0)) (getD cs 1 (pos 0)))
+    ≡ Root.Sound (c .before .before .range .given .0 .0)
+root-sound c = root-told (c .before .before .before .before) ∙ c .before .before .range .given .1
+
+-- There are P places, at least two, with their coefficients and codes.
+record Sizes (places coefficients codes : ℕ) : Type 0 where
+  some : 2 ≤ places
+  even : places ≡ 2 * (places / 2)
+  packed : coefficients ≡ 3 * places
+  pairs : codes ≡ places / 2
+
+sizes : (c : tie.After-places) →
+    (let a = c .before .before .before .before .before .before .before .before .before .args in
+    Sizes (c .places .result) (length (a .packed .now)) (length (a .codes .now)))
+sizes c =
+    let start = c .before .before .before .before .before .before .before .before .before in
+    let n = start .args .n in
+    rw (c .places .ensures)
+    (record { some = 2≤P n; even = P-even n; packed = start .pre .coefficients; pairs = start .pre .codes })
 
 coefficient-at-requires : tie.Need-coefficient-at-requires
 coefficient-at-requires c κs =
@@ -55,25 +79,43 @@ returns c = laws.root-unsound _ _ _ (root-told (c .before .before) ∙ c .enum-t
 places-requires : tie.Need-places-requires
 places-requires c κs = search needs
 
-examine-below-requires : tie.Need-examine-below-requires
-examine-below-requires c κs =
-    let c4 = c .before .before .before .before in
-    let start = c4 .before .before .before .before .before in
-    let a = start .args in
-    let p = start .pre in
-    let r = root-told c4 ∙ c .before .before .range .given .1 in
-    let e = c .places .ensures in
-    let z = 2≤P (a .n) in
-    let h = P-even (a .n) in
-    let w = p .coefficients in
-    let k = p .codes in
-    (omega arith, (laws.root-readings (unpacked (a .packed .now)) r, (omega arith, omega arith)))
+examine-pair-requires : tie.Need-examine-pair-requires
+examine-pair-requires c κs = let z = sizes (c .before) in omega (arith, z .some, z .even, z .pairs)
 
 returns-2 : tie.Need-returns-2
 returns-2 c =
-    let c5 = c .before .before .before .before .before in
-    let r = root-told c5 ∙ c .before .before .before .range .given .1 in
-    laws.root-examined _ _ _ _ r _ (rw (c .before .places .ensures) at (c .examine-below .ensures))
+    let c2 = c .before .before in
+    let cs = unpacked (c2 .before .before .before .before .before .before .before .before .before .args .packed .now) in
+    let E = c .examine-pair .ensures .pair cs (c2 .places .result) (sizes c2 .some) (c .before .if1 .taken) in
+    laws.root-examined _ _ _ _ (root-sound c2) _ (rw (c2 .places .ensures) at E)
+
+examine-four-requires : tie.Need-examine-four-requires
+examine-four-requires c κs =
+    let c2 = c .before .before in
+    let z = sizes c2 in
+    let w = c .before .if1 .left in
+    let cs = unpacked (c2 .before .before .before .before .before .before .before .before .before .args .packed .now) in
+    (laws.root-readings cs (root-sound c2), (omega (arith, z .packed), omega (arith, z .even, z .pairs)))
+
+returns-3 : tie.Need-returns-3
+returns-3 c =
+    let c3 = c .before .before .before in
+    let wide = c .before .before .if1 .left in
+    let E = c .examine-four .ensures .four (c3 .places .result) wide (c .before .if2 .taken) in
+    laws.root-examined _ _ _ _ (root-sound c3) _ (rw (c3 .places .ensures) at E)
+
+examine-below-requires : tie.Need-examine-below-requires
+examine-below-requires c κs =
+    let c2 = c .before .before in
+    let z = sizes c2 in
+    let w = c .if2 .left in
+    let cs = unpacked (c2 .before .before .before .before .before .before .before .before .before .args .packed .now) in
+    (w, (laws.root-readings cs (root-sound c2), (omega (arith, z .packed), omega (arith, z .even, z .pairs))))
+
+returns-4 : tie.Need-returns-4
+returns-4 c =
+    let c3 = c .before .before .before in
+    laws.root-examined _ _ _ _ (root-sound c3) _ (rw (c3 .places .ensures) at (c .examine-below .ensures))
 
 pub examine-spec : {M : Type 1} → statement M
 examine-spec =
@@ -86,5 +128,9 @@ examine-spec =
     enum-told
     returns
     places-requires
+    examine-pair-requires
+    returns-2
+    examine-four-requires
+    returns-3
     examine-below-requires
-    returns-2)
+    returns-4)
