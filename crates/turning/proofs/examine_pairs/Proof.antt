@@ -4,6 +4,12 @@ use Rattle.turning.proofs.Examining as laws
 use Rattle.turning.proofs.examine_pairs.Statement.{statement}
 use Rattle.turning.proofs.examine_pairs.Tie as tie
 
+add-next-number : tie.Need-add-next-number
+add-next-number c = search needs
+
+add-next-hour : tie.Need-add-next-hour
+add-next-hour c = search needs
+
 examine-pair-requires : tie.Need-examine-pair-requires
 examine-pair-requires c κs = search needs
 
@@ -18,12 +24,6 @@ returns c =
 enum-told : tie.Need-enum-told
 enum-told c = search needs
 
-add-t11 : tie.Need-add-t11
-add-t11 c = search needs
-
-add-t13 : tie.Need-add-t13
-add-t13 c = search needs
-
 examine-pair-requires-2 : tie.Need-examine-pair-requires-2
 examine-pair-requires-2 c κs = search needs
 
@@ -37,11 +37,11 @@ pub examine-pairs-spec : {M : Type 1} → statement M
 examine-pairs-spec =
     tie.close
     (tie.spec
+    add-next-number
+    add-next-hour
     examine-pair-requires
     enum-known-verdict
     returns
     enum-told
-    add-t11
-    add-t13
     examine-pair-requires-2
     returns-2)
