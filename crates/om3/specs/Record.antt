@@ -81,9 +81,12 @@ recordLength n = lengthFor (P n)
 abbrev pub recordSize : ℕ → ℕ
 recordSize n = 4 + recordLength n
 
--- Four bytes of length, one of version, two of n. [record 2, 3, 4]
+-- Before the coefficients: four bytes of length, one of version, two of n. [record 2, 3, 4]
 abbrev pub headerOf : (stated n : ℕ) → List ℕ
 headerOf stated n = bytesOf 4 stated ++ bytesOf 1 version ++ bytesOf 2 n
+
+abbrev pub headerSize : ℕ
+headerSize = 4 + 1 + 2
 
 -- Then the coefficients, and the codes directly after the last. [record 5, 6]
 unfoldable pub recordOf : ℕ → Table → List ℕ
@@ -99,10 +102,7 @@ HasRecord n s r = r ≡ recordOf n (tableOf (levels n) n s)
 abbrev pub bytesAt : List ℕ → ℕ → ℕ → List ℕ
 bytesAt r p w = take w (drop p r)
 
--- The fields before the coefficients: length, version and n. [record 2, 3, 4]
-abbrev pub headerSize : ℕ
-headerSize = 4 + 1 + 2
-
+-- What the fields state: the length, the version, n. [record 2, 3, 4]
 abbrev pub lengthIn : List ℕ → ℕ
 lengthIn r = numberFrom (bytesAt r 0 4)
 

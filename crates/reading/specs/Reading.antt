@@ -27,13 +27,16 @@ use Rattle.turning.specs.declared.Verdict.{Verdict}
 use Rattle.turning.specs.Turning.{Examined}
 use Rattle.packing.specs.Packing.{unpacked}
 
+-- The details of node i stand at the places 2i and 2i + 1. [table 3]
 abbrev pub halvesIn : List ℤ → NodeId → Range → Halves
 halvesIn cs i range = halvesOf range (getD cs (2 * i .0) (pos 0)) (getD cs (2 * i .0 + 1) (pos 0))
 
+-- A node of four hours, which code that carries hours tells by there being fewer than eight.
 pub record FourExamined (n : ℕ) (cs : List ℤ) (ks : List ℕ) (i : NodeId) (f : ℕ) (range : Range)
     (r : Verdict) : Type 0 where
   pub four : (w : ℕ) → 4 ≤ w → w < 8 → Examined n cs ks i f w range r
 
+-- The parts of an opened record. [record 5, 6]
 pub record PackedTable (n : ℕ) (bs qs : List ℕ) : Type 0 where
   pub most : n ≤ largestHours
   pub coefficients : length bs ≡ 3 * P n
@@ -44,6 +47,7 @@ abbrev pub partsChecks : (n : ℕ) (bs qs : List ℕ) (cs : List ℤ) (ks : List
 partsChecks n bs qs cs ks =
     inOrder (checkRoom (tableShort n (lent cs ks)) ∷ examineTable n (lent (unpacked bs) qs) ∷ [])
 
+-- These parts become a table in the lent coefficients cs and codes ks.
 pub record PartsRead (n : ℕ) (bs qs : List ℕ) (cs : List ℤ) (ks : List ℕ) (cs′ : List ℤ) (ks′ : List ℕ)
     (r : Unpacking) : Type 0 where
   pub answer : r ≡ unpackingBy (partsChecks n bs qs cs ks) n

@@ -15,6 +15,7 @@ use Rattle.om3.specs.Calls.{writtenBy}
 use Rattle.om3.specs.Record.{recordSize, recordOf, writingChecks, writingBy}
 use Rattle.packing.specs.Packing.{EachInThree}
 
+-- What is to be written, and room for it. [record 5, 6]
 pub record Ready (n : ℕ) (cs : List ℤ) (ks : List ℕ) (size : ℕ) : Type 0 where
   pub most : n ≤ largestHours
   pub coefficients : length cs ≡ P n

@@ -7,6 +7,7 @@ use lib.ListN.{length}
 use borrow.Fn.Kinds.{In}
 use borrow.Fn.PlainCycle.{Measures, is, falls, and}
 use borrow.Author.Needs.{needs}
+use Rattle.om3.specs.Ranges.{Readings}
 use Rattle.om3.proofs.Rooms.{places-room, left-room, right-room}
 use Rattle.node.specs.declared.Halves.{Halves}
 use Rattle.turning.proofs.Examining as laws
@@ -48,6 +49,14 @@ room t c =
     let two : 2 ≤ c .args .hours / 2 = omega (arith, c .pre) in
     places-room _ _ _ two (c .pre .1 .1 .1 .0)
 
+-- The range is one of readings, and all below the node has room.
+readings : (t : ℕ) (c : lts.Start (callees t) (at t) own.Post) → Readings (c .args .range)
+readings t c = c .pre .1 .1 .0
+
+all-room : (t : ℕ) (c : lts.Start (callees t) (at t) own.Post)
+    → (c .args .i .0 + 1) * (c .args .hours / 2) ≤ length (c .args .packed .now) / 3
+all-room t c = c .pre .1 .1 .1 .0
+
 -- What the step down answers: these are the halves.
 step : (t : ℕ) (c : lts.After-halves (callees t) (at t) own.Post) →
     (let a = c .before .before .before .before .before .before .args in
@@ -68,7 +77,7 @@ add-right-number t c =
 halves-at-requires : (t : ℕ) → lts.Need-halves-at-requires (callees t) (at t) own.Post
 halves-at-requires t c κs =
     let start = c .before .before .before in
-    (start .pre .1 .1 .0, room t start)
+    (readings t start, room t start)
 
 enum-known-halves : (t : ℕ) → lts.Need-enum-known-halves (callees t) (at t) own.Post
 enum-known-halves t c = search needs
@@ -93,9 +102,9 @@ examine-four-requires t c κs =
     let a = start .args in
     let p = start .pre in
     let h = step t (c .before .before) in
-    let r = laws.left-readings (a .range) (unpacked (a .packed .now)) (a .i .0) (p .1 .1 .0) h in
+    let r = laws.left-readings (a .range) (unpacked (a .packed .now)) (a .i .0) (readings t start) h in
     let two : 2 ≤ a .hours / 2 / 2 = omega (arith, p) in
-    (r, (places-room _ _ _ two (left-room _ _ _ (p .1 .1 .1 .0)), omega (arith, p)))
+    (r, (places-room _ _ _ two (left-room _ _ _ (all-room t start)), omega (arith, p)))
 
 enum-known-verdict : (t : ℕ) → lts.Need-enum-known-verdict (callees t) (at t) own.Post
 enum-known-verdict t c = search needs
@@ -119,9 +128,9 @@ examine-four-requires-2 t c κs =
     let a = start .args in
     let p = start .pre in
     let h = step t (c3 .before .before) in
-    let r = laws.right-readings (a .range) (unpacked (a .packed .now)) (a .i .0) (p .1 .1 .0) h in
+    let r = laws.right-readings (a .range) (unpacked (a .packed .now)) (a .i .0) (readings t start) h in
     let two : 2 ≤ a .hours / 2 / 2 = omega (arith, p) in
-    (r, (places-room _ _ _ two (right-room _ _ _ (p .1 .1 .1 .0)), omega (arith, p)))
+    (r, (places-room _ _ _ two (right-room _ _ _ (all-room t start)), omega (arith, p)))
 
 returns-3 : (t : ℕ) → lts.Need-returns-3 (callees t) (at t) own.Post
 returns-3 t c =
@@ -140,9 +149,9 @@ examine-below-requires t c κs =
     let a = start .args in
     let p = start .pre in
     let h = step t (c .before .before) in
-    let r = laws.left-readings (a .range) (unpacked (a .packed .now)) (a .i .0) (p .1 .1 .0) h in
+    let r = laws.left-readings (a .range) (unpacked (a .packed .now)) (a .i .0) (readings t start) h in
     let w = c .if1 .left in
-    (omega (arith, p), (omega arith, (r, (left-room _ _ _ (p .1 .1 .1 .0), omega (arith, p)))))
+    (omega (arith, p), (omega arith, (r, (left-room _ _ _ (all-room t start), omega (arith, p)))))
 
 enum-known-first : (t : ℕ) → lts.Need-enum-known-first (callees t) (at t) own.Post
 enum-known-first t c = search needs
@@ -165,9 +174,9 @@ examine-below-requires-2 t c κs =
     let a = start .args in
     let p = start .pre in
     let h = step t (c3 .before .before) in
-    let r = laws.right-readings (a .range) (unpacked (a .packed .now)) (a .i .0) (p .1 .1 .0) h in
+    let r = laws.right-readings (a .range) (unpacked (a .packed .now)) (a .i .0) (readings t start) h in
     let w = c3 .if1 .left in
-    (omega (arith, p), (omega arith, (r, (right-room _ _ _ (p .1 .1 .1 .0), omega (arith, p)))))
+    (omega (arith, p), (omega arith, (r, (right-room _ _ _ (all-room t start), omega (arith, p)))))
 
 returns-5 : (t : ℕ) → lts.Need-returns-5 (callees t) (at t) own.Post
 returns-5 t c =

@@ -1,11 +1,13 @@
 -- `examine` examines node 0, which gives node 1 its range, and then node 1 and all below it. Assumes nothing.
 use mathlib.Core.Path.{_≡_, _∙_}
+use mathlib.Core.List.{List}
 use Prim.Native.Nat.{ℕ, _*_, _/_, _≤_}
 use native.Mathlib.Omega.{arith}
-use lib.IntN.{pos}
+use lib.IntN.{ℤ, pos}
 use lib.ListN.{length, getD}
 use borrow.Author.Needs.{needs}
 use Rattle.signed.proofs.Widths.{reads-back}
+use Rattle.om3.specs.Series.{P}
 use Rattle.om3.proofs.Levels.{2≤P, P-even}
 use Rattle.node.specs.declared.Root.{Root}
 use Rattle.node.specs.Steps.{rootOf}
@@ -31,10 +33,16 @@ root-told c =
     (reads-back (y .result) (y .ok) ∙ y .ensures)
     (c .root-range .ensures)
 
+-- Where the function started, and the coefficients that its bytes spell.
+abbrev startOf : tie.After-places → tie.Start
+startOf c = c .before .before .before .before .before .before .before .before .before
+
+abbrev spelled : tie.After-places → List ℤ
+spelled c = unpacked (startOf c .args .packed .now)
+
 -- Node 1 has this range.
 root-sound : (c : tie.After-places) →
-    (let cs = unpacked (c .before .before .before .before .before .before .before .before .before .args .packed .now) in
-    rootOf (getD cs 0 (pos 0)) (getD cs 1 (pos 0)))
+    rootOf (getD (spelled c) 0 (pos 0)) (getD (spelled c) 1 (pos 0))
     ≡ Root.Sound (c .before .before .range .given .0 .0)
 root-sound c = root-told (c .before .before .before .before) ∙ c .before .before .range .given .1
 
@@ -45,14 +53,16 @@ record Sizes (places coefficients codes : ℕ) : Type 0 where
   packed : coefficients ≡ 3 * places
   pairs : codes ≡ places / 2
 
+sizes-right : (n places coefficients codes : ℕ) → places ≡ P n → coefficients ≡ 3 * P n → codes ≡ P n / 2
+    → Sizes places coefficients codes
+sizes-right n places coefficients codes e p q =
+    rw e (record { some = 2≤P n; even = P-even n; packed = p; pairs = q })
+
 sizes : (c : tie.After-places) →
-    (let a = c .before .before .before .before .before .before .before .before .before .args in
-    Sizes (c .places .result) (length (a .packed .now)) (length (a .codes .now)))
+    (let a = startOf c .args in Sizes (c .places .result) (length (a .packed .now)) (length (a .codes .now)))
 sizes c =
-    let start = c .before .before .before .before .before .before .before .before .before in
-    let n = start .args .n in
-    rw (c .places .ensures)
-    (record { some = 2≤P n; even = P-even n; packed = start .pre .coefficients; pairs = start .pre .codes })
+    let p = startOf c .pre in
+    sizes-right _ _ _ _ (c .places .ensures) (p .coefficients) (p .codes)
 
 coefficient-at-requires : tie.Need-coefficient-at-requires
 coefficient-at-requires c κs =
@@ -94,8 +104,7 @@ examine-four-requires c κs =
     let c2 = c .before .before in
     let z = sizes c2 in
     let w = c .before .if1 .left in
-    let cs = unpacked (c2 .before .before .before .before .before .before .before .before .before .args .packed .now) in
-    (laws.root-readings cs (root-sound c2), (omega (arith, z .packed), omega (arith, z .even, z .pairs)))
+    (laws.root-readings (spelled c2) (root-sound c2), (omega (arith, z .packed), omega (arith, z .even, z .pairs)))
 
 returns-3 : tie.Need-returns-3
 returns-3 c =
@@ -109,8 +118,7 @@ examine-below-requires c κs =
     let c2 = c .before .before in
     let z = sizes c2 in
     let w = c .if2 .left in
-    let cs = unpacked (c2 .before .before .before .before .before .before .before .before .before .args .packed .now) in
-    (w, (laws.root-readings cs (root-sound c2), (omega (arith, z .packed), omega (arith, z .even, z .pairs))))
+    (w, (laws.root-readings (spelled c2) (root-sound c2), (omega (arith, z .packed), omega (arith, z .even, z .pairs))))
 
 returns-4 : tie.Need-returns-4
 returns-4 c =
