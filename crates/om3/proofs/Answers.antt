@@ -12,7 +12,6 @@ use Rattle.words.specs.declared.Stretch.{Stretch}
 use Rattle.words.specs.declared.Answer.{Answer}
 use Rattle.words.specs.declared.Answer.the-variants.{NoReading, Found}
 use Rattle.om3.specs.Series.{badHours, levels, P}
-use Rattle.om3.specs.Nodes.{Node, number}
 use Rattle.om3.specs.Refusals.{short}
 use Rattle.om3.specs.Level.{hasLevel, levelStretch}
 use Rattle.om3.specs.Joined.{joined}
@@ -36,15 +35,7 @@ stretch-within n j lent = by (hasLevel n j lent) refl
         let below : suc (suc j) ≤ levels n = omega (arith, leb-true (j + 2) (levels n) (and-right (not bad) deep e)) in
         omega (arith, ltb-false lent (P n) room, pow-mono below, two-pow-succ j, two-pow-succ (suc j))
 
--- The places of level j are those of the details of its nodes. [level 1] [table 3]
-pub stretch-level : (v : Node) → v .index < 2 ^ v .level
-    → (2 * 2 ^ v .level ≤ 2 * number v .0) × (2 * number v .0 + 1 < 4 * 2 ^ v .level)
-stretch-level v h = (omega arith, omega arith)
-
--- "No reading" changes nothing on either side. [columns 19]
-pub joined-left : (a : Answer) → joined NoReading a ≡ a
-joined-left a = refl
-
+-- "No reading" changes nothing on the right; on the left that is its definition. [columns 19]
 pub joined-right : (a : Answer) → joined a NoReading ≡ a
 joined-right NoReading = refl
 joined-right (Found s) = refl

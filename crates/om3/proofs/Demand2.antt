@@ -16,10 +16,10 @@ use Rattle.words.specs.Said.{lowOf}
 use Rattle.words.specs.declared.Range.{Range}
 use Rattle.words.specs.declared.Range.the-variants.{Empty, Held}
 use Rattle.om3.specs.Series.{isReading, isGap, Series, levels, P, hour, hourOf}
-use Rattle.om3.specs.Ranges.{Readings}
+use Rattle.om3.specs.Ranges.{Readings, rangeOf}
 use Rattle.om3.specs.Nodes.{Node}
 use Rattle.om3.specs.Table.{Table, coefficient, codeOfPlace, tableOf, HasTable}
-use Rattle.om3.specs.Down.{reachedAt, turnedBack}
+use Rattle.om3.specs.Down.{reachedAt, reached, turnedBack}
 use Rattle.om3.specs.Sound.{soundTable}
 use Rattle.om3.specs.Refusals.{short, tableShort}
 use Rattle.om3.proofs.Tests.{left-true, neither, is-between}
@@ -79,15 +79,20 @@ module _ (n : ℕ) where
         let o = levels-some n in
         sound-agrees l t (tableOf l n s) (has-agrees s t h) o n (made-sound l n s (series .holds) o)
 
+    -- What is reached at a node is the range of its hours.
+    pub has-ranges : (v : Node) → InTree l v → reached l t v ≡ rangeOf l n s v
+    has-ranges v i =
+        let o = levels-some n in
+        reached-agrees l t (tableOf l n s) (has-agrees s t h) o (v .level) (v .index) (i .deep) (i .low)
+        ∙ reached-range l n s (series .holds) o (v .level) (v .index) (i .deep) (i .low)
+
     at-hour : (k : ℕ) → k < n → getD s k gap ≡ lowOf (reachedAt l t l k)
     unfolding hourOf
     at-hour k b =
-        let o = levels-some n in
         let b′ : k < 2 ^ l = omega (arith, n≤P n (series .most)) in
         let v : Node = record { level = l; index = k } in
         rw (
-          reached-agrees l t (tableOf l n s) (has-agrees s t h) o l k (le-refl l) b′,
-          reached-range l n s (series .holds) o l k (le-refl l) b′,
+          has-ranges v (record { deep = le-refl l; low = b′ }),
           hour-range l n s v refl,
           start-hour l v refl,
           low-hour (hourOf n s (hour k)),

@@ -9,10 +9,11 @@ use lib.Dec.{leb, ltb}
 use lib.Pow.{pow-pos}
 use borrow.Author.Tests.{leb-true, ltb-true, le-leb, lt-ltb}
 use Rattle.signed.proofs.Parts.{clash}
+use Rattle.words.specs.declared.Column.{Column}
 use Rattle.om3.specs.Lists.{upFrom, any, every}
 use Rattle.om3.specs.Series.{hour, hoursFrom}
 use Rattle.om3.specs.Nodes.{Node, width, start, hours}
-use Rattle.om3.specs.Columns.{Column, inColumn}
+use Rattle.om3.specs.Columns.{inColumn}
 use Rattle.om3.specs.Stopped.{shares, inside}
 use Rattle.om3.proofs.Tests.{and-left, and-right, both-true, or-cases, left-true, right-true, below-or-not}
 
@@ -28,16 +29,16 @@ pub record Within (x : Column) (f c : ℕ) : Type 0 where
   pub before : f + c ≤ x .upto .0
 
 module _ (x : Column) where
-  in-column : (f : ℕ) → inColumn x (hour f) ≡ true → (x .from .0 ≤ f) × (f < x .upto .0)
+  pub in-column : (f : ℕ) → inColumn x (hour f) ≡ true → (x .from .0 ≤ f) × (f < x .upto .0)
   in-column f e =
       let A = leb (x .from .0) f in
       let B = ltb f (x .upto .0) in
       (leb-true _ _ (and-left A B e), ltb-true _ _ (and-right A B e))
 
-  column-in : (f : ℕ) → x .from .0 ≤ f → f < x .upto .0 → inColumn x (hour f) ≡ true
+  pub column-in : (f : ℕ) → x .from .0 ≤ f → f < x .upto .0 → inColumn x (hour f) ≡ true
   column-in f a b = both-true (le-leb _ _ a) (lt-ltb _ _ b)
 
-  any-overlap : (f c : ℕ) → any (inColumn x) (hoursFrom f c) ≡ true → Overlap x f c
+  pub any-overlap : (f c : ℕ) → any (inColumn x) (hoursFrom f c) ≡ true → Overlap x f c
   unfolding any upFrom
   any-overlap f zero e = clash e
   any-overlap f (suc c) e =
@@ -77,7 +78,7 @@ module _ (x : Column) where
             (below-or-not c 1);
       }
 
-  within-every : (f c : ℕ) → Within x f c → every (inColumn x) (hoursFrom f c) ≡ true
+  pub within-every : (f c : ℕ) → Within x f c → every (inColumn x) (hoursFrom f c) ≡ true
   unfolding every upFrom
   within-every f zero p = refl
   within-every f (suc c) p =

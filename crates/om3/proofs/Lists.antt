@@ -1,14 +1,17 @@
--- Lists made by counting up, and the first number that passes a test. Assumes nothing.
+-- Lists made by counting up, how long a list is of which k can be taken, what a test keeps of a list, and the first
+-- number that passes a test. Assumes nothing.
 use mathlib.Core.Path.{_≡_, refl, sym, ap, _∙_}
 use mathlib.Core.Bool.{Bool, true, false, cond}
-use mathlib.Core.List.{_∷_, _++_, map}
+use mathlib.Core.List.{List, [], _∷_, _++_, map}
 use mathlib.Core.Logic.{⊎-elim}
 use Prim.Native.Nat.{ℕ, zero, suc, _+_, _≤_, _<_}
 use native.Mathlib.Nat.{zero-add, add-zero, suc-add, eq-or-lt-of-le}
 use native.Mathlib.Omega.{arith}
-use lib.ListN.{length, getD, length-map}
+use lib.ListN.{length, getD, take, length-map}
+use lib.Seq.{take-all}
 use Rattle.signed.proofs.Parts.{clash}
-use Rattle.om3.specs.Lists.{upFrom, firstFrom}
+use Rattle.om3.specs.Lists.{upFrom, any, every, keep, firstFrom}
+use Rattle.om3.proofs.Tests.{and-left, and-right, neither, below-or-not}
 
 pub up-append : (f a b : ℕ) → upFrom f (a + b) ≡ upFrom f a ++ upFrom (f + a) b
 unfolding upFrom
@@ -39,6 +42,34 @@ module _ {A : Type 0} (g : ℕ → A) where
 
   pub map-up-from-0 : (d : A) (c p : ℕ) → p < c → getD (map g (upFrom 0 c)) p d ≡ g p
   map-up-from-0 d c p h = map-up-at d 0 c p h ∙ ap g (zero-add p)
+
+-- A list of which k can be taken has k.
+pub take-room : {A : Type 0} (k : ℕ) (xs : List A) → length (take k xs) ≡ k → k ≤ length xs
+take-room k xs e =
+    ⊎-elim (λ h. omega (arith, ap length (take-all k xs (omega arith)))) (λ h. h) (below-or-not (length xs) k)
+
+cond-append : {A : Type 0} (b : Bool) (x : A) (xs ys : List A)
+    → cond b (x ∷ (xs ++ ys)) (xs ++ ys) ≡ cond b (x ∷ xs) xs ++ ys
+cond-append true x xs ys = refl
+cond-append false x xs ys = refl
+
+-- What a test keeps of two lists, of a list whose every member passes it, and of one where none does.
+module _ {A : Type 0} (p : A → Bool) where
+  pub keep-append : (xs ys : List A) → keep p (xs ++ ys) ≡ keep p xs ++ keep p ys
+  unfolding keep
+  keep-append [] ys = refl
+  keep-append (x ∷ xs) ys = rw (keep-append xs ys) (cond-append (p x) x (keep p xs) (keep p ys))
+
+  pub every-kept : (xs : List A) → every p xs ≡ true → keep p xs ≡ xs
+  unfolding every keep
+  every-kept [] e = refl
+  every-kept (x ∷ xs) e =
+      rw (and-left (p x) (every p xs) e) (ap (_∷_ x) (every-kept xs (and-right (p x) (every p xs) e)))
+
+  pub nothing-kept : (xs : List A) → any p xs ≡ false → keep p xs ≡ []
+  unfolding any keep
+  nothing-kept [] e = refl
+  nothing-kept (x ∷ xs) e = let two = neither (p x) (any p xs) e in rw (two .0) (nothing-kept xs (two .1))
 
 -- `firstFrom p j f` is from j up to j + f, passes the test if j + f does, and nothing from j on that passes is less.
 module _ (p : ℕ → Bool) where

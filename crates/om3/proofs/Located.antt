@@ -30,6 +30,10 @@ module _ {l : ℕ} {v : Node} {i f w : ℕ} (at : Located l v i f w) where
       absurd (omega (arith, at .covers)))
       (below-or-not (v .level) l)
 
+  -- A node of two hours or more has one level more below it than its halves have.
+  pub one-more : 2 ≤ w → l - v .level ≡ suc (l - suc (v .level))
+  one-more h = let b = above-hours h in omega arith
+
   pub above-pairs : 4 ≤ w → suc (v .level) < l
   unfolding width
   above-pairs h =

@@ -24,10 +24,10 @@ use Rattle.om3.specs.Ranges.{hourRange, both, Readings, look, rangeOf}
 use Rattle.om3.proofs.Tests.{or-cases, between}
 use Rattle.om3.proofs.Nodes.{hours-halves}
 
-min-assoc : (a b c : ℤ) → minZ (minZ a b) c ≡ minZ a (minZ b c)
+pub min-assoc : (a b c : ℤ) → minZ (minZ a b) c ≡ minZ a (minZ b c)
 min-assoc a b c = omega (signed, min-parts a b, min-parts b c, min-parts (minZ a b) c, min-parts a (minZ b c))
 
-max-assoc : (a b c : ℤ) → maxZ (maxZ a b) c ≡ maxZ a (maxZ b c)
+pub max-assoc : (a b c : ℤ) → maxZ (maxZ a b) c ≡ maxZ a (maxZ b c)
 max-assoc a b c = omega (signed, max-parts a b, max-parts b c, max-parts (maxZ a b) c, max-parts a (maxZ b c))
 
 pub both-assoc : (r s u : Range) → both (both r s) u ≡ both r (both s u)

@@ -35,7 +35,7 @@ module _ (l n : ℕ) (t : Table) (ok : soundTable l n t ≡ true) where
   unfolding soundTable
   root-sound = and-left (soundRootValues (coefficientAt t 0) (coefficientAt t 1)) _ ok
 
-  node-sound : (v : Node) → InTree l v → v .level < l → soundNode l n t v ≡ true
+  pub node-sound : (v : Node) → InTree l v → v .level < l → soundNode l n t v ≡ true
   unfolding soundTable
   node-sound v i b =
       each-in-table l (soundNode l n t)

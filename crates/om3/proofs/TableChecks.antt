@@ -1,6 +1,4 @@
 -- Checks 1, 3 and 4 of a table that is written to a buffer, one after the other. Assumes nothing.
---
---   Enough   checks 1 and 3 pass: n is a number of hours, and the table and the buffer have what is needed
 use mathlib.Core.Path.{_≡_}
 use mathlib.Core.Bool.{true, false}
 use mathlib.Core.List.{List}
@@ -12,15 +10,9 @@ use Rattle.words.specs.declared.Refusal.the-variants.{BadHours, ShortBuffer}
 use Rattle.om3.specs.Series.{badHours, P}
 use Rattle.om3.specs.Table.{lent}
 use Rattle.om3.specs.Checks.{Check, passes, refuses, inOrder}
-use Rattle.om3.specs.Refusals.{short, tableShort, examineTable, tableChecks}
+use Rattle.om3.specs.Refusals.{short, tableShort, Enough, examineTable, tableChecks}
 use Rattle.om3.proofs.Tests.{neither}
 use Rattle.om3.proofs.Examined.{then-passes, order-parts, first-absent}
-
-pub record Enough (n : ℕ) (cs : List ℤ) (ks : List ℕ) (size needed : ℕ) : Type 0 where
-  pub good : badHours n ≡ false
-  pub coefficients : P n ≤ length cs
-  pub codes : P n / 2 ≤ length ks
-  pub buffer : needed ≤ size
 
 module _ (n : ℕ) (cs : List ℤ) (ks : List ℕ) (size needed : ℕ) where
   abbrev checks : Check

@@ -1,6 +1,5 @@
 -- Document 01, "Columns": the edges of a window's columns. Assumes nothing.
 --
---   Column             hours from `from` up to, not including, `upto`
 --   ceil x w           x / w rounded up
 --   edge a b w k       the first hour of column k of the window [a, b) in w columns
 --   column a b w k     column k of the window [a, b) drawn in w columns
@@ -13,6 +12,7 @@ use mathlib.Core.List.{List}
 use Prim.Native.Nat.{ℕ, _+_, _-_, _*_, _/_}
 use lib.Dec.{leb, ltb}
 use Rattle.words.specs.declared.Timestamp.{Timestamp}
+use Rattle.words.specs.declared.Column.{Column}
 use Rattle.words.specs.declared.Edges.{Edges}
 use Rattle.om3.specs.Series.{hour, hoursFrom}
 use Rattle.om3.specs.Checks.{Check, passes, refuses}
@@ -26,10 +26,6 @@ ceil x w = (x + (w - 1)) / w
 -- Deviation: document 003 uses a fractional step; this is the cut of document 004. [columns 3, 4]
 abbrev pub edge : (a b w k : ℕ) → Timestamp
 edge a b w k = hour (a + ceil (k * (b - a)) w)
-
-pub record Column : Type 0 where
-  pub from : Timestamp
-  pub upto : Timestamp
 
 -- Column k holds hours from edge k up to, not including, edge k + 1. [columns 2]
 abbrev pub column : (a b w k : ℕ) → Column
@@ -47,7 +43,7 @@ noHour x = leb (x .upto .0) (x .from .0)
 
 -- The call for column edges alone. [refusals 20]
 abbrev pub edgesBy : Check → Column → Edges
-edgesBy passes x = Edges.Hours (x .from) (x .upto)
+edgesBy passes x = Edges.Hours x
 edgesBy (refuses why) x = Edges.Refused why
 
 unfoldable pub edges : (n a b w k : ℕ) → Edges

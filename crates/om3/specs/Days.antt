@@ -1,17 +1,18 @@
 -- Document 01, "Columns": the day change. Assumes nothing.
 --
 --   day n d           the hours of day d of n hours
+--   changeOf a        last reading minus first reading of an answer, or no reading
 --   dayChange n t d   what the call for the day change answers
 use Prim.Native.Nat.{ℕ, _+_, _*_, min}
 use lib.IntN.{_-ℤ_}
 use Rattle.words.specs.Constants.{dayHours}
 use Rattle.words.specs.declared.Answer.{Answer}
 use Rattle.words.specs.declared.DayChange.{DayChange}
+use Rattle.words.specs.declared.Column.{Column}
 use Rattle.om3.specs.Series.{levels, hour}
 use Rattle.om3.specs.Table.{Table}
 use Rattle.om3.specs.Checks.{Check, passes, refuses}
 use Rattle.om3.specs.Refusals.{dayChecks}
-use Rattle.om3.specs.Columns.{Column}
 use Rattle.om3.specs.Finished.{answer, examineFinished}
 
 -- Day d: hours 24·d to 24·d + 23, cut at n. [columns 21]

@@ -18,6 +18,7 @@ use Rattle.words.specs.declared.Range.the-variants.{Empty, Held}
 use Rattle.words.specs.declared.Reading.{Reading}
 use Rattle.words.specs.declared.Answer.{Answer}
 use Rattle.words.specs.declared.Finished.{Finished}
+use Rattle.words.specs.declared.Column.{Column}
 use Rattle.om3.specs.Series.{levels, hour}
 use Rattle.om3.specs.Nodes.{Node, root, left, right}
 use Rattle.om3.specs.Table.{Table}
@@ -25,7 +26,7 @@ use Rattle.om3.specs.Down.{reached}
 use Rattle.om3.specs.Checks.{Check, passes, refuses}
 use Rattle.om3.specs.Sound.{examine}
 use Rattle.om3.specs.Refusals.{tableShort, checkRoom, columnChecks}
-use Rattle.om3.specs.Columns.{Column, column, noHour}
+use Rattle.om3.specs.Columns.{column, noHour}
 use Rattle.om3.specs.Stopped.{hasReading, openedNodes, countAt, innerNodes, inner}
 
 pub record Walk : Type 0 where
@@ -64,7 +65,7 @@ abbrev pub sum : List ℕ → ℕ
 sum [] = 0
 sum (m ∷ ms) = m + sum ms
 
-module _ (l : ℕ) (t : Table) (x : Column) where
+module _ (l : ℕ) (t : Table) where
   -- To the first: the left half if it has a reading, else the right; to the last the other way round. [columns 17]
   abbrev pub towardsFirst : Node → Node
   towardsFirst v = cond (hasReading l t (left v)) (left v) (right v)
@@ -72,6 +73,11 @@ module _ (l : ℕ) (t : Table) (x : Column) where
   abbrev pub towardsLast : Node → Node
   towardsLast v = cond (hasReading l t (right v)) (right v) (left v)
 
+  -- The reading of a single hour: hour k is node k of level l. [hours 9]
+  abbrev pub readingAt : Node → Reading
+  readingAt v = record { hour = hour (v .index); grams = lowOf (reached l t v) }
+
+module _ (l : ℕ) (t : Table) (x : Column) where
   -- The earliest non-empty inside visited node, and the latest. [columns 15]
   abbrev pub earliest : Node
   earliest = firstOr root (innerNodes l t x l)
@@ -80,19 +86,15 @@ module _ (l : ℕ) (t : Table) (x : Column) where
   latest = lastOr root (innerNodes l t x l)
 
   abbrev pub firstWalk : Walk
-  firstWalk = record { from = earliest; half = towardsFirst }
+  firstWalk = record { from = earliest; half = towardsFirst l t }
 
   abbrev pub lastWalk : Walk
-  lastWalk = record { from = latest; half = towardsLast }
+  lastWalk = record { from = latest; half = towardsLast l t }
 
   -- The walk to the first reading, then that to the last; none without a reading. [columns 15, 16]
   abbrev pub walks : Range → List Walk
   walks Empty = []
   walks (Held low high) = firstWalk ∷ lastWalk ∷ []
-
-  -- The reading of a single hour: hour k is node k of level l. [hours 9]
-  abbrev pub readingAt : Node → Reading
-  readingAt v = record { hour = hour (v .index); grams = lowOf (reached l t v) }
 
   -- First and last reading, each with its hour, and the low and the high of the inner range; or no reading.
   -- [columns 13, 14]
@@ -101,8 +103,8 @@ module _ (l : ℕ) (t : Table) (x : Column) where
   answerOver (Held low high) =
       Answer.Found
       (record {
-        first = readingAt (endOf l firstWalk);
-        last = readingAt (endOf l lastWalk);
+        first = readingAt l t (endOf l firstWalk);
+        last = readingAt l t (endOf l lastWalk);
         low = low;
         high = high;
       })

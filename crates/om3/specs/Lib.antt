@@ -1,4 +1,4 @@
--- Document 01 as definitions, in its order.
+-- Document 01 as definitions, in its order; Looked and Drawn, what demand 3 compares them with.
 pub mod Lists
 pub mod Series
 pub mod Nodes
@@ -16,4 +16,6 @@ pub mod Stopped
 pub mod Finished
 pub mod Joined
 pub mod Days
+pub mod Looked
+pub mod Drawn
 pub mod Numbers

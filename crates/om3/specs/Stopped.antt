@@ -19,6 +19,7 @@ use lib.ListN.{length}
 use Rattle.words.specs.declared.Range.{Range}
 use Rattle.words.specs.declared.Range.the-variants.{Empty}
 use Rattle.words.specs.declared.Stopped.{Stopped}
+use Rattle.words.specs.declared.Column.{Column}
 use Rattle.om3.specs.Lists.{any, every, keep}
 use Rattle.om3.specs.Series.{levels}
 use Rattle.om3.specs.Nodes.{Node, hours}
@@ -28,7 +29,7 @@ use Rattle.om3.specs.Down.{reached}
 use Rattle.om3.specs.Checks.{Check, passes, refuses}
 use Rattle.om3.specs.Sound.{allNodes, examine}
 use Rattle.om3.specs.Refusals.{tableShort, checkRoom, checkDepth, columnChecks}
-use Rattle.om3.specs.Columns.{Column, column, inColumn, noHour}
+use Rattle.om3.specs.Columns.{column, inColumn, noHour}
 
 -- The node above: v is one of its halves.
 abbrev pub above : Node → Node
@@ -44,6 +45,12 @@ shares l x v = any (inColumn x) (hours l v)
 
 unfoldable pub inside : ℕ → Column → Node → Bool
 inside l x v = every (inColumn x) (hours l v)
+
+module _ (l : ℕ) (t : Table) where
+  -- The least low and the greatest high over the nodes of a list; over no node it is absent. [columns 12]
+  unfoldable pub rangeOver : List Node → Range
+  rangeOver [] = Empty
+  rangeOver (v ∷ vs) = both (reached l t v) (rangeOver vs)
 
 module _ (l : ℕ) (t : Table) (x : Column) where
   -- A node is opened if it has a reading, shares an hour with the column and is not wholly inside it; at depth d only a
@@ -62,17 +69,12 @@ module _ (l : ℕ) (t : Table) (x : Column) where
   unfoldable pub countAt : ℕ → ℕ
   countAt d = 1 + 2 * length (openedNodes d)
 
-  -- The least low and the greatest high over the nodes of a list; over no node it is absent. [columns 12]
-  unfoldable pub rangeOver : List Node → Range
-  rangeOver [] = Empty
-  rangeOver (v ∷ vs) = both (reached l t v) (rangeOver vs)
-
   -- Outer range: over visited, unopened, non-empty nodes that share an hour with the column. [columns 10]
   abbrev pub isOuter : ℕ → Node → Bool
   isOuter d v = visited d v && not (opened d v) && hasReading l t v && shares l x v
 
   unfoldable pub outer : ℕ → Range
-  outer d = rangeOver (keep (isOuter d) (allNodes l))
+  outer d = rangeOver l t (keep (isOuter d) (allNodes l))
 
   -- Inner: the same over those wholly inside. From left to right these nodes are in the order of their hours.
   -- [columns 11]
@@ -83,7 +85,7 @@ module _ (l : ℕ) (t : Table) (x : Column) where
   innerNodes d = keep (isInner d) (allNodes l)
 
   abbrev pub inner : ℕ → Range
-  inner d = rangeOver (innerNodes d)
+  inner d = rangeOver l t (innerNodes d)
 
   -- Node 0, then the opened nodes in the order of examination; no node at all for a column without an hour. Where the
   -- nodes examined are sound, unsound ones elsewhere change nothing. [columns 5, 16, 18]

@@ -106,7 +106,7 @@ saidOfTaking Taking.Taken = taken []
 saidOfTaking (Taking.Refused r) = refused r
 
 abbrev pub saidOfEdges : Edges → Said
-saidOfEdges (Edges.Hours from upto) = taken (pos (from .0) ∷ pos (upto .0) ∷ [])
+saidOfEdges (Edges.Hours x) = taken (pos (x .from .0) ∷ pos (x .upto .0) ∷ [])
 saidOfEdges (Edges.Refused r) = refused r
 
 abbrev pub saidOfDayChange : DayChange → Said

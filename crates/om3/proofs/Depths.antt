@@ -1,0 +1,125 @@
+-- With greater depth the inner range widens and the outer range narrows, and at depth l they are one: there each
+-- visited node that is not opened, has a reading and shares an hour with the column lies wholly inside it. Assumes
+-- nothing.
+use mathlib.Core.Path.{_≡_, refl, sym, _∙_}
+use mathlib.Core.Bool.{Bool, true, false, cond}
+use Prim.Native.Nat.{ℕ, _+_, _≤_, _<_}
+use Rattle.signed.proofs.Parts.{clash}
+use Rattle.words.specs.declared.Column.{Column}
+use Rattle.words.specs.declared.Range.{Range}
+use Rattle.words.specs.declared.Range.the-variants.{Empty, Held}
+use Rattle.om3.specs.Nodes.{Node, left, right}
+use Rattle.om3.specs.Ranges.{both}
+use Rattle.om3.specs.Table.{Table}
+use Rattle.om3.specs.Down.{reached}
+use Rattle.om3.specs.Stopped.{shares, inside, opened, visited, outer, inner}
+use Rattle.om3.specs.Looked.{LiesWithin}
+use Rattle.om3.proofs.Nodes.{InTree}
+use Rattle.om3.proofs.Opened.{opened-opens, unopened-if}
+use Rattle.om3.proofs.Walked.{visited-left, visited-right, visited-root}
+use Rattle.om3.proofs.Walks.{inside-shares, opened-or-inside, opened-deeper, AtEnds, GoingOn, each-visited}
+use Rattle.om3.proofs.Walks.{root-visited}
+use Rattle.om3.proofs.RangesBelow.{outerBelow, innerBelow, outer-root, inner-root, outer-opened, inner-opened}
+use Rattle.om3.proofs.RangesBelow.{outer-unopened, inner-unopened}
+use Rattle.om3.proofs.RangesWithin.{within-refl, within-trans, both-widen}
+
+-- In a table the range of each node above the hours is that of its halves together.
+abbrev pub Joins : ℕ → Table → Type 0
+Joins l t = (v : Node) → InTree l v → v .level < l → reached l t v ≡ both (reached l t (left v)) (reached l t (right v))
+
+cond-within : (b : Bool) (r : Range) → LiesWithin (cond b r Empty) r
+cond-within true r = within-refl r
+cond-within false r = tt
+
+module _ (l : ℕ) (t : Table) (x : Column) where
+  module _ (d e : ℕ) (d≤e : d ≤ e) where
+    abbrev InnerWider : ℕ → Node → Type 0
+    InnerWider h v = visited l t x e v ≡ true → LiesWithin (innerBelow l t x d h v) (innerBelow l t x e h v)
+
+    -- A node wholly inside the column is opened at no depth: it gives its range at both.
+    inner-ends : AtEnds l t x d InnerWider
+    inner-ends h v q i m o n = rw (inner-unopened l t x d h v q m o) (by (inside l x v) refl)
+      where
+        by : (b : Bool) → inside l x v ≡ b → LiesWithin (cond b (reached l t v) Empty) (innerBelow l t x e h v)
+        by true p =
+            let o′ = unopened-if l t x e v (λ u. clash (sym (u .partly) ∙ p)) in
+            rw (inner-unopened l t x e h v q n o′, p) (within-refl (reached l t v))
+        by false p = tt
+
+    inner-goes : GoingOn l t x d InnerWider
+    inner-goes h v b i o p q n =
+        let o′ = opened-deeper l t x d e d≤e v o in
+        rw (inner-opened l t x d h v o, inner-opened l t x e h v o′)
+        (both-widen (innerBelow l t x d h (left v)) (innerBelow l t x d h (right v)) _ _
+        (p (visited-left l t x e v ∙ o′)) (q (visited-right l t x e v ∙ o′)))
+
+    -- The inner range at a depth lies within that at any greater one.
+    pub inner-widens : LiesWithin (inner l t x d) (inner l t x e)
+    inner-widens =
+        rw (inner-root l t x d, inner-root l t x e)
+        (root-visited l t x d InnerWider inner-ends inner-goes (visited-root l t x e))
+
+  -- A visited node that is not opened at depth l is empty, lies wholly inside the column or shares no hour with it.
+  module _ (v : Node) (i : InTree l v) (o : opened l t x l v ≡ false) where
+    ends-agree : cond (shares l x v) (reached l t v) Empty ≡ cond (inside l x v) (reached l t v) Empty
+    ends-agree = by (shares l x v) refl (inside l x v) refl (reached l t v) refl
+      where
+        by : (c : Bool) → shares l x v ≡ c → (b : Bool) → inside l x v ≡ b → (r : Range) → reached l t v ≡ r
+            → cond c r Empty ≡ cond b r Empty
+        by true s true p r e = refl
+        by false s false p r e = refl
+        by false s true p r e = clash (sym s ∙ inside-shares l x v p)
+        by true s false p Empty e = refl
+        by true s false p (Held a b) e = clash (sym o ∙ opened-or-inside l t x v i (rw e) s p)
+
+  -- At depth l the outer range is the inner one.
+  pub depth-agrees : outer l t x l ≡ inner l t x l
+  depth-agrees =
+      rw (outer-root l t x l, inner-root l t x l)
+      (root-visited l t x l (λ h v. outerBelow l t x l h v ≡ innerBelow l t x l h v)
+      (λ h v q i m o.
+      outer-unopened l t x l h v q m o ∙ ends-agree v i o ∙ sym (inner-unopened l t x l h v q m o))
+      (λ h v b i o p q. rw (outer-opened l t x l h v o, inner-opened l t x l h v o, p, q)))
+
+  module _ (joins : Joins l t) where
+    -- What comes from a visited node lies within that node's range, and there is nothing if it shares no hour.
+    module _ (e : ℕ) where
+      abbrev InNode : ℕ → Node → Type 0
+      InNode h v = LiesWithin (outerBelow l t x e h v) (cond (shares l x v) (reached l t v) Empty)
+
+      in-reached : (h : ℕ) (v : Node) → InNode h v → LiesWithin (outerBelow l t x e h v) (reached l t v)
+      in-reached h v p =
+          within-trans (outerBelow l t x e h v) (cond (shares l x v) (reached l t v) Empty) (reached l t v) p
+          (cond-within (shares l x v) (reached l t v))
+
+      node-goes : GoingOn l t x e InNode
+      node-goes h v b i o p q =
+          rw (outer-opened l t x e h v o, opened-opens l t x e v o .sharing, joins v i b)
+          (both-widen (outerBelow l t x e h (left v)) (outerBelow l t x e h (right v)) _ _
+          (in-reached h (left v) p) (in-reached h (right v) q))
+
+      outer-in-node : (h : ℕ) (v : Node) → v .level + h ≡ l → InTree l v → visited l t x e v ≡ true → InNode h v
+      outer-in-node =
+          each-visited l t x e InNode
+          (λ h v q i m o.
+          rw (outer-unopened l t x e h v q m o) (within-refl (cond (shares l x v) (reached l t v) Empty)))
+          node-goes
+
+    module _ (d e : ℕ) (d≤e : d ≤ e) where
+      abbrev OuterNarrower : ℕ → Node → Type 0
+      OuterNarrower h v = visited l t x e v ≡ true → LiesWithin (outerBelow l t x e h v) (outerBelow l t x d h v)
+
+      outer-goes : GoingOn l t x d OuterNarrower
+      outer-goes h v b i o p q n =
+          let o′ = opened-deeper l t x d e d≤e v o in
+          rw (outer-opened l t x d h v o, outer-opened l t x e h v o′)
+          (both-widen (outerBelow l t x e h (left v)) (outerBelow l t x e h (right v)) _ _
+          (p (visited-left l t x e v ∙ o′)) (q (visited-right l t x e v ∙ o′)))
+
+      -- The outer range at a depth lies within that at any lesser one.
+      pub outer-narrows : LiesWithin (outer l t x e) (outer l t x d)
+      outer-narrows =
+          rw (outer-root l t x d, outer-root l t x e)
+          (root-visited l t x d OuterNarrower
+          (λ h v q i m o n. rw (outer-unopened l t x d h v q m o) (outer-in-node e h v q i n))
+          outer-goes (visited-root l t x e))

@@ -1,0 +1,101 @@
+-- Of the hours of a node, those that lie in a column are all of them, none of them, or as many as its halves have; of
+-- node 1 they are the hours of the column. Assumes nothing.
+use mathlib.Core.Path.{_≡_, refl, ap, _∙_}
+use mathlib.Core.Bool.{Bool, true, false, cond}
+use mathlib.Core.List.{List, [], _∷_, _++_, append-nil}
+use Prim.Native.Nat.{ℕ, _-_, _^_, _≤_, _<_}
+use native.Mathlib.Omega.{arith}
+use lib.IntN.{ℤ}
+use Rattle.words.specs.declared.Timestamp.{Timestamp}
+use Rattle.words.specs.declared.Answer.{Answer}
+use Rattle.words.specs.declared.Answer.the-variants.{NoReading, Found}
+use Rattle.words.specs.declared.Column.{Column}
+use Rattle.om3.specs.Lists.{any, keep}
+use Rattle.om3.specs.Series.{hoursFrom}
+use Rattle.om3.specs.Nodes.{Node, root, left, right, hours}
+use Rattle.om3.specs.Columns.{inColumn, columnHours}
+use Rattle.om3.specs.Stopped.{shares, inside}
+use Rattle.om3.specs.Joined.{joined}
+use Rattle.om3.specs.Looked.{hourAnswer, lookThrough}
+use Rattle.om3.proofs.Tests.{fails-up}
+use Rattle.om3.proofs.Lists.{keep-append, every-kept, nothing-kept}
+use Rattle.om3.proofs.Nodes.{start-root, width-root, hours-halves}
+use Rattle.om3.proofs.Intervals.{Overlap, Within, any-overlap, within-every}
+use Rattle.om3.proofs.Windows.{hours-cut}
+
+-- Of hours without a reading none has one.
+none-joined : (a b : Answer) → joined a b ≡ NoReading → (a ≡ NoReading) × (b ≡ NoReading)
+none-joined NoReading b e = (refl, e)
+none-joined (Found f) NoReading e = (e, refl)
+none-joined (Found f) (Found g) e = (cc, cc)
+
+pub no-reading-kept : (n : ℕ) (s : List ℤ) (p : Timestamp → Bool) (ts : List Timestamp)
+    → lookThrough n s ts ≡ NoReading → lookThrough n s (keep p ts) ≡ NoReading
+unfolding lookThrough keep
+no-reading-kept n s p [] e = refl
+no-reading-kept n s p (t ∷ ts) e =
+    let two = none-joined (hourAnswer n s t) (lookThrough n s ts) e in
+    by (p t) (two .0) (no-reading-kept n s p ts (two .1))
+  where
+    by : (b : Bool) → hourAnswer n s t ≡ NoReading → lookThrough n s (keep p ts) ≡ NoReading
+        → lookThrough n s (cond b (t ∷ keep p ts) (keep p ts)) ≡ NoReading
+    by true q r = rw (q, r)
+    by false q r = r
+
+module _ (l : ℕ) (x : Column) (v : Node) where
+  -- The hours of node v that lie in column x.
+  abbrev pub hoursShared : List Timestamp
+  hoursShared = keep (inColumn x) (hours l v)
+
+  pub inside-kept : inside l x v ≡ true → hoursShared ≡ hours l v
+  unfolding inside
+  inside-kept e = every-kept (inColumn x) (hours l v) e
+
+  pub unshared-kept : shares l x v ≡ false → hoursShared ≡ []
+  unfolding shares
+  unshared-kept e = nothing-kept (inColumn x) (hours l v) e
+
+pub halves-kept : (l : ℕ) (x : Column) (v : Node) → v .level < l
+    → hoursShared l x v ≡ hoursShared l x (left v) ++ hoursShared l x (right v)
+halves-kept l x v b = rw (hours-halves l v b) (keep-append (inColumn x) (hours l (left v)) (hours l (right v)))
+
+-- Hours before the column or after it.
+module _ (x : Column) where
+  outside-kept : (f c : ℕ) → (Overlap x f c → ⊥) → keep (inColumn x) (hoursFrom f c) ≡ []
+  outside-kept f c apart =
+      nothing-kept (inColumn x) (hoursFrom f c)
+      (fails-up (any (inColumn x) (hoursFrom f c)) false (λ e. absurd (apart (any-overlap x f c e))) refl)
+
+  within-kept : (f c : ℕ) → Within x f c → keep (inColumn x) (hoursFrom f c) ≡ hoursFrom f c
+  within-kept f c w = every-kept (inColumn x) (hoursFrom f c) (within-every x f c w)
+
+  -- All hours of a table are those before the column, its own, and those after it.
+  module _ (l : ℕ) (some : x .from .0 ≤ x .upto .0) (most : x .upto .0 ≤ 2 ^ l) where
+    abbrev before : List Timestamp
+    before = hoursFrom 0 (x .from .0 - 0)
+
+    abbrev after : List Timestamp
+    after = hoursFrom (x .upto .0) (2 ^ l - x .upto .0)
+
+    hours-root : hours l root ≡ before ++ (columnHours x ++ after)
+    unfolding hours
+    hours-root =
+        let e : 2 ^ l ≡ 2 ^ l - 0 = omega arith in
+        rw (start-root l, width-root l) (ap (hoursFrom 0) e)
+        ∙ hours-cut 0 (x .from .0) (2 ^ l) (omega arith) (omega arith)
+        ∙ ap (λ (ts : List Timestamp). before ++ ts) (hours-cut (x .from .0) (x .upto .0) (2 ^ l) some most)
+
+    pub root-kept : hoursShared l x root ≡ columnHours x
+    root-kept =
+        let inner : Within x (x .from .0) (x .upto .0 - x .from .0) =
+        record { after = omega arith; before = omega arith }
+        in
+        rw (
+          hours-root,
+          keep-append (inColumn x) before (columnHours x ++ after),
+          keep-append (inColumn x) (columnHours x) after,
+          outside-kept 0 (x .from .0 - 0) (λ o. omega (arith, o .reaches)),
+          within-kept (x .from .0) (x .upto .0 - x .from .0) inner,
+          outside-kept (x .upto .0) (2 ^ l - x .upto .0) (λ o. omega (arith, o .begins)),
+        )
+        (append-nil (columnHours x))

@@ -1,0 +1,76 @@
+-- The nodes listed below a node of the tree lie in the tree, and those kept of a list pass the test they are kept by:
+-- opened nodes are of a level below the depth, inner nodes have a reading. Assumes nothing.
+use mathlib.Core.Path.{_≡_, refl}
+use mathlib.Core.Bool.{Bool, true, false, cond, not, _&&_}
+use mathlib.Core.List.{List, [], _∷_}
+use Prim.Native.Nat.{ℕ, zero, suc, _+_, _*_, _^_, _≤_, _<_}
+use native.Mathlib.Nat.{two-pow-succ}
+use native.Mathlib.Omega.{arith}
+use Rattle.words.specs.declared.Column.{Column}
+use Rattle.om3.specs.Lists.{keep}
+use Rattle.om3.specs.Nodes.{Node, root, left, right}
+use Rattle.om3.specs.Table.{Table}
+use Rattle.om3.specs.Sound.{nodesBelow, allNodes}
+use Rattle.om3.specs.Stopped.{hasReading, shares, inside, opened, visited, openedNodes, isOuter, isInner}
+use Rattle.om3.specs.Stopped.{innerNodes}
+use Rattle.om3.proofs.Tests.{and-left, and-right}
+use Rattle.om3.proofs.Nodes.{InTree}
+use Rattle.om3.proofs.Listed.{All, all-append, all-map}
+use Rattle.om3.proofs.Opened.{opened-opens}
+
+-- What is kept of nodes that are all of a kind is of that kind, and passes the test.
+all-kept : (P : Node → Type 0) (p : Node → Bool) (vs : List Node) → All P vs
+    → All (λ v. P v × (p v ≡ true)) (keep p vs)
+unfolding keep
+all-kept P p [] a = tt
+all-kept P p (v ∷ vs) a = by (p v) refl (all-kept P p vs (a .1))
+  where
+    by : (b : Bool) → p v ≡ b → All (λ v. P v × (p v ≡ true)) (keep p vs)
+        → All (λ v. P v × (p v ≡ true)) (cond b (v ∷ keep p vs) (keep p vs))
+    by true e r = ((a .0, e), r)
+    by false e r = r
+
+below-in : (l h : ℕ) (v : Node) → v .level + h ≤ suc l → v .index < 2 ^ v .level → All (InTree l) (nodesBelow h v)
+unfolding nodesBelow
+below-in l zero v b k = tt
+below-in l (suc h) v b k =
+    let b′ : suc (v .level) + h ≤ suc l = omega arith in
+    let L : 2 * v .index < 2 ^ suc (v .level) = omega (arith, two-pow-succ (v .level)) in
+    let R : 2 * v .index + 1 < 2 ^ suc (v .level) = omega (arith, two-pow-succ (v .level)) in (
+      record { deep = omega arith; low = k },
+      all-append (InTree l) (nodesBelow h (left v)) (nodesBelow h (right v)) (below-in l h (left v) b′ L)
+          (below-in l h (right v) b′ R),
+    )
+
+all-in : (l : ℕ) → All (InTree l) (allNodes l)
+all-in l = below-in l (suc l) root (omega arith) (omega arith)
+
+-- A node of the tree above its single hours: one that can be examined.
+pub record Above (l : ℕ) (v : Node) : Type 0 where
+  pub inTree : InTree l v
+  pub above : v .level < l
+
+-- A node of the tree that has a reading.
+pub record NonEmpty (l : ℕ) (t : Table) (v : Node) : Type 0 where
+  pub inTree : InTree l v
+  pub reading : hasReading l t v ≡ true
+
+module _ (l : ℕ) (t : Table) (x : Column) (d : ℕ) where
+  pub opened-above : d ≤ l → All (Above l) (openedNodes l t x d)
+  opened-above deep =
+      all-map (λ v. InTree l v × (opened l t x d v ≡ true)) (Above l)
+      (λ v p. record { inTree = p .0; above = omega (arith, opened-opens l t x d v (p .1) .shallow) })
+      (openedNodes l t x d) (all-kept (InTree l) (opened l t x d) (allNodes l) (all-in l))
+
+  inner-reading : (v : Node) → isInner l t x d v ≡ true → hasReading l t v ≡ true
+  inner-reading v e =
+      let M = visited l t x d v && not (opened l t x d v) in
+      let R = hasReading l t v in
+      and-right M R (and-left (M && R) (shares l x v) (and-left (isOuter l t x d v) (inside l x v) e))
+
+  pub inner-non-empty : All (NonEmpty l t) (innerNodes l t x d)
+  unfolding innerNodes
+  inner-non-empty =
+      all-map (λ v. InTree l v × (isInner l t x d v ≡ true)) (NonEmpty l t)
+      (λ v p. record { inTree = p .0; reading = inner-reading v (p .1) })
+      (innerNodes l t x d) (all-kept (InTree l) (isInner l t x d) (allNodes l) (all-in l))

@@ -1,0 +1,108 @@
+-- Where what is reached at each node is the range of its hours, the answer of a node's hours is joined from those of
+-- its halves, and a node has a reading exactly if its hours answer with one. Assumes nothing.
+use mathlib.Core.Path.{_≡_, refl, sym, ap, _∙_}
+use mathlib.Core.Bool.{Bool, true, false, cond, not}
+use mathlib.Core.List.{List, [], _∷_, _++_}
+use Prim.Native.Nat.{ℕ, _<_}
+use lib.IntN.{ℤ}
+use Rattle.signed.proofs.Parts.{clash}
+use Rattle.words.specs.declared.Timestamp.{Timestamp}
+use Rattle.words.specs.declared.Reading.{Reading}
+use Rattle.words.specs.declared.Summary.{Summary}
+use Rattle.words.specs.declared.Answer.{Answer}
+use Rattle.words.specs.declared.Answer.the-variants.{NoReading, Found}
+use Rattle.om3.specs.Lists.{upFrom}
+use Rattle.om3.specs.Series.{isGap, hour, hourOf}
+use Rattle.om3.specs.Nodes.{Node, left, right, hours}
+use Rattle.om3.specs.Ranges.{isEmpty, rangeOf}
+use Rattle.om3.specs.Table.{Table}
+use Rattle.om3.specs.Down.{reached}
+use Rattle.om3.specs.Stopped.{hasReading}
+use Rattle.om3.specs.Joined.{joined}
+use Rattle.om3.specs.Looked.{readingOf, hourAnswer, lookThrough}
+use Rattle.om3.proofs.Nodes.{InTree, hours-halves, width-hour, start-hour}
+use Rattle.om3.proofs.Answers.{joined-right}
+use Rattle.om3.proofs.LookedThrough.{joined-assoc, rangeOfAnswer, look-through-append, look-through-range}
+
+-- The answer of a node's hours.
+abbrev pub nodeAnswer : ℕ → ℕ → List ℤ → Node → Answer
+nodeAnswer l n s v = lookThrough n s (hours l v)
+
+-- An answer has a first reading, and it is r; it has a last one, and it is r.
+abbrev pub Begins : Answer → Reading → Type 0
+Begins NoReading r = ⊥
+Begins (Found f) r = f .first ≡ r
+
+abbrev pub Ends : Answer → Reading → Type 0
+Ends NoReading r = ⊥
+Ends (Found f) r = f .last ≡ r
+
+pub begins-joined : (a b : Answer) (r : Reading) → Begins a r → Begins (joined a b) r
+begins-joined NoReading b r e = absurd e
+begins-joined (Found a) NoReading r e = e
+begins-joined (Found a) (Found b) r e = e
+
+pub ends-joined : (a b : Answer) (r : Reading) → Ends b r → Ends (joined a b) r
+ends-joined NoReading b r e = e
+ends-joined (Found a) NoReading r e = absurd e
+ends-joined (Found a) (Found b) r e = e
+
+-- Whether an answer is not "no reading".
+abbrev pub found : Answer → Bool
+found a = not (isEmpty (rangeOfAnswer a))
+
+found-not : (a : Answer) → found a ≡ false → a ≡ NoReading
+found-not NoReading e = refl
+found-not (Found f) e = clash (sym e)
+
+-- An hour that answers has its reading as its first and as its last.
+module _ (n : ℕ) (s : List ℤ) (t : Timestamp) where
+  pub hour-begins : found (hourAnswer n s t) ≡ true → Begins (hourAnswer n s t) (readingOf n s t)
+  hour-begins = by (isGap (hourOf n s t)) _ refl
+    where
+      by : (b : Bool) (f : Summary) → f .first ≡ readingOf n s t → found (cond b NoReading (Found f)) ≡ true
+          → Begins (cond b NoReading (Found f)) (readingOf n s t)
+      by true f p e = clash e
+      by false f p e = p
+
+  pub hour-ends : found (hourAnswer n s t) ≡ true → Ends (hourAnswer n s t) (readingOf n s t)
+  hour-ends = by (isGap (hourOf n s t)) _ refl
+    where
+      by : (b : Bool) (f : Summary) → f .last ≡ readingOf n s t → found (cond b NoReading (Found f)) ≡ true
+          → Ends (cond b NoReading (Found f)) (readingOf n s t)
+      by true f p e = clash e
+      by false f p e = p
+
+module _ (l n : ℕ) (s : List ℤ) where
+  abbrev A : Node → Answer
+  A v = nodeAnswer l n s v
+
+  pub answer-halves : (v : Node) → v .level < l → A v ≡ joined (A (left v)) (A (right v))
+  answer-halves v b = rw (hours-halves l v b) (look-through-append n s (hours l (left v)) (hours l (right v)))
+
+  pub answer-hour : (v : Node) → v .level ≡ l → A v ≡ hourAnswer n s (hour (v .index))
+  unfolding hours upFrom lookThrough
+  answer-hour v z = rw (width-hour l v z, start-hour l v z) (joined-right (hourAnswer n s (hour (v .index))))
+
+  -- The answers of the nodes of a list, joined in its order.
+  unfoldable pub joinedOver : List Node → Answer
+  joinedOver [] = NoReading
+  joinedOver (v ∷ vs) = joined (A v) (joinedOver vs)
+
+  pub joined-over-append : (vs us : List Node) → joinedOver (vs ++ us) ≡ joined (joinedOver vs) (joinedOver us)
+  unfolding joinedOver
+  joined-over-append [] us = refl
+  joined-over-append (v ∷ vs) us =
+      ap (joined (A v)) (joined-over-append vs us) ∙ sym (joined-assoc (A v) (joinedOver vs) (joinedOver us))
+
+  module _ (t : Table) (ranges : (v : Node) → InTree l v → reached l t v ≡ rangeOf l n s v) (v : Node) (i : InTree l v)
+    where
+      pub reached-answer : reached l t v ≡ rangeOfAnswer (A v)
+      unfolding rangeOf
+      reached-answer = ranges v i ∙ sym (look-through-range n s (hours l v))
+
+      pub reading-found : hasReading l t v ≡ found (A v)
+      reading-found = rw reached-answer
+
+      pub no-answer : hasReading l t v ≡ false → A v ≡ NoReading
+      no-answer e = found-not (A v) (sym reading-found ∙ e)

@@ -1,0 +1,138 @@
+-- Where what is reached at each node is the range of its hours, the walk to the first reading from a node that has one
+-- ends at the first reading of the node's hours, and the walk to the last at the last: the half taken at each step has
+-- a reading, and its first or last is the node's own. Assumes nothing.
+use mathlib.Core.Path.{_≡_, refl, sym, ap, _∙_}
+use mathlib.Core.Bool.{Bool, true, false, cond}
+use mathlib.Core.List.{List}
+use Prim.Native.Nat.{ℕ, zero, suc, _+_, _<_}
+use native.Mathlib.Omega.{arith}
+use lib.IntN.{ℤ}
+use Rattle.words.specs.Said.{lowOf}
+use Rattle.words.specs.declared.Timestamp.{Timestamp}
+use Rattle.words.specs.declared.Reading.{Reading}
+use Rattle.words.specs.declared.Answer.{Answer}
+use Rattle.om3.specs.Series.{hour, hourOf}
+use Rattle.om3.specs.Nodes.{Node, left, right}
+use Rattle.om3.specs.Ranges.{rangeOf}
+use Rattle.om3.specs.Table.{Table}
+use Rattle.om3.specs.Down.{reached}
+use Rattle.om3.specs.Stopped.{hasReading}
+use Rattle.om3.specs.Finished.{walkEnd, towardsFirst, towardsLast, readingAt}
+use Rattle.om3.specs.Looked.{readingOf, hourAnswer}
+use Rattle.om3.proofs.Nodes.{InTree, left-in, right-in, start-hour}
+use Rattle.om3.proofs.Ranges.{low-hour}
+use Rattle.om3.proofs.Places.{hour-range}
+use Rattle.om3.proofs.Answers.{joined-right}
+use Rattle.om3.proofs.NodeAnswers.{nodeAnswer, Begins, Ends, begins-joined, ends-joined, found, hour-begins}
+use Rattle.om3.proofs.NodeAnswers.{hour-ends, answer-halves, answer-hour, reading-found, no-answer}
+
+-- A half that a walk takes: a node of the tree, of the level below.
+pub record Taken (l : ℕ) (v u : Node) : Type 0 where
+  pub inTree : InTree l u
+  pub below : u .level ≡ suc (v .level)
+
+module _ {l : ℕ} {v : Node} (i : InTree l v) (b : v .level < l) where
+  left-taken : Taken l v (left v)
+  left-taken = record { inTree = left-in i b; below = refl }
+
+  right-taken : Taken l v (right v)
+  right-taken = record { inTree = right-in i b; below = refl }
+
+module _ (l : ℕ) (t : Table) (v : Node) (i : InTree l v) (b : v .level < l) where
+  pub first-taken : Taken l v (towardsFirst l t v)
+  first-taken = by (hasReading l t (left v))
+    where
+      by : (c : Bool) → Taken l v (cond c (left v) (right v))
+      by true = left-taken i b
+      by false = right-taken i b
+
+  pub last-taken : Taken l v (towardsLast l t v)
+  last-taken = by (hasReading l t (right v))
+    where
+      by : (c : Bool) → Taken l v (cond c (right v) (left v))
+      by true = right-taken i b
+      by false = left-taken i b
+
+module _ (l n : ℕ) (s : List ℤ) (t : Table) where
+  abbrev A : Node → Answer
+  A v = nodeAnswer l n s v
+
+  -- From node v to node u, one of its halves: it has a reading, and what it shows as first, or last, v shows too.
+  record Step (Shows : Answer → Reading → Type 0) (v u : Node) : Type 0 where
+    reading : hasReading l t u ≡ true
+    shows : (r : Reading) → Shows (A u) r → Shows (A v) r
+
+  module _ (ranges : (v : Node) → InTree l v → reached l t v ≡ rangeOf l n s v) where
+    -- A single hour.
+    grams-hour : (v : Node) → InTree l v → v .level ≡ l → lowOf (reached l t v) ≡ hourOf n s (hour (v .index))
+    grams-hour v i z = rw (ranges v i, hour-range l n s v z, start-hour l v z) (low-hour (hourOf n s (hour (v .index))))
+
+    hour-found : (v : Node) → InTree l v → v .level ≡ l → hasReading l t v ≡ true
+        → found (hourAnswer n s (hour (v .index))) ≡ true
+    hour-found v i z e = ap found (sym (answer-hour l n s v z)) ∙ sym (reading-found l n s t ranges v i) ∙ e
+
+    -- A walk whose every step shows what it came from ends at what its starting node shows.
+    module _ (Shows : Answer → Reading → Type 0) (half : Node → Node)
+        (at-hour : (k : Timestamp) → found (hourAnswer n s k) ≡ true → Shows (hourAnswer n s k) (readingOf n s k))
+        (taken : (v : Node) → InTree l v → v .level < l → Taken l v (half v))
+        (step : (v : Node) → InTree l v → v .level < l → hasReading l t v ≡ true → Step Shows v (half v)) where
+      walk-shows : (h : ℕ) (v : Node) → v .level + h ≡ l → InTree l v → hasReading l t v ≡ true
+          → Shows (A v) (readingAt l t (walkEnd half h v))
+      unfolding walkEnd
+      walk-shows zero v e i r =
+          let z : v .level ≡ l = omega arith in
+          rw (answer-hour l n s v z, grams-hour v i z) (at-hour (hour (v .index)) (hour-found v i z r))
+      walk-shows (suc h) v e i r =
+          let b : v .level < l = omega arith in
+          let p = step v i b r in
+          let u = taken v i b in
+          let e′ : half v .level + h ≡ l = omega (arith, u .below) in
+          p .shows _ (walk-shows h (half v) e′ (u .inTree) (p .reading))
+
+    module _ (v : Node) (i : InTree l v) (b : v .level < l) (r : hasReading l t v ≡ true) where
+      -- A half that answers for the whole node.
+      whole-step : (Shows : Answer → Reading → Type 0) (u : Node) → InTree l u → A v ≡ A u → Step Shows v u
+      whole-step Shows u j e =
+          record {
+            reading =
+                reading-found l n s t ranges u j ∙ ap found (sym e) ∙ sym (reading-found l n s t ranges v i) ∙ r;
+            shows = λ q p. rw e p;
+          }
+
+      right-whole : hasReading l t (left v) ≡ false → A v ≡ A (right v)
+      right-whole e = answer-halves l n s v b ∙ rw (no-answer l n s t ranges (left v) (left-in i b) e)
+
+      left-whole : hasReading l t (right v) ≡ false → A v ≡ A (left v)
+      left-whole e =
+          answer-halves l n s v b
+          ∙ rw (no-answer l n s t ranges (right v) (right-in i b) e) (joined-right (A (left v)))
+
+      first-step : Step Begins v (towardsFirst l t v)
+      first-step = by (hasReading l t (left v)) refl
+        where
+          by : (c : Bool) → hasReading l t (left v) ≡ c → Step Begins v (cond c (left v) (right v))
+          by true e =
+              record {
+                reading = e;
+                shows = λ q p. rw (answer-halves l n s v b) (begins-joined (A (left v)) (A (right v)) q p);
+              }
+          by false e = whole-step Begins (right v) (right-in i b) (right-whole e)
+
+      last-step : Step Ends v (towardsLast l t v)
+      last-step = by (hasReading l t (right v)) refl
+        where
+          by : (c : Bool) → hasReading l t (right v) ≡ c → Step Ends v (cond c (right v) (left v))
+          by true e =
+              record {
+                reading = e;
+                shows = λ q p. rw (answer-halves l n s v b) (ends-joined (A (left v)) (A (right v)) q p);
+              }
+          by false e = whole-step Ends (left v) (left-in i b) (left-whole e)
+
+    pub walk-first : (h : ℕ) (v : Node) → v .level + h ≡ l → InTree l v → hasReading l t v ≡ true
+        → Begins (A v) (readingAt l t (walkEnd (towardsFirst l t) h v))
+    walk-first = walk-shows Begins (towardsFirst l t) (hour-begins n s) (first-taken l t) first-step
+
+    pub walk-last : (h : ℕ) (v : Node) → v .level + h ≡ l → InTree l v → hasReading l t v ≡ true
+        → Ends (A v) (readingAt l t (walkEnd (towardsLast l t) h v))
+    walk-last = walk-shows Ends (towardsLast l t) (hour-ends n s) (last-taken l t) last-step
