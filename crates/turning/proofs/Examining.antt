@@ -24,7 +24,7 @@ use Rattle.om3.proofs.Examined.{in-order-append, then-passes}
 use Rattle.node.specs.declared.Halves.{Halves}
 use Rattle.node.specs.Steps.{halvesOf, pairOf}
 use Rattle.turning.specs.declared.Verdict.{Verdict}
-use Rattle.turning.specs.Turning.{checkOf, examineNodes, Examined, PairExamined, PairsExamined}
+use Rattle.turning.specs.Turning.{checkOf, examineNodes, pairAt, Examined, PairExamined, PairsExamined}
 use Rattle.turning.proofs.Answers.{Stepped, stepped, not-stepped}
 
 -- The halves of a sound node that is not a pair are ranges of readings.
@@ -57,6 +57,30 @@ module _ {l : ℕ} {v : Node} {i f w : ℕ} (at : Located l v i f w) (two : 2 �
   pub code-index : number v .0 - 2 ^ l / 2 ≡ f / 2
   code-index = omega (arith, pair-half l v (at-pair at two four), first-index)
 
+-- The answers of a pair's step: its code does not fit, an hour from n on comes out as a reading, or it is sound.
+module _ (n : ℕ) (ks : List ℕ) (f : ℕ) (range : Range) where
+  abbrev code : ℕ
+  code = getD ks (f / 2) 0
+
+  pub code-unsound : pairOf range code ≡ Halves.Unsound → Halves.Unsound ≡ pairAt n ks f range
+  code-unsound h = rw (not-stepped (soundCode range code) (firstOfPair range code) (secondOfPair range code) h)
+
+  module _ (a b : Range) (h : pairOf range code ≡ Halves.Sound a b) where
+    abbrev coded : Stepped (soundCode range code) (firstOfPair range code) (secondOfPair range code) a b
+    coded = stepped (soundCode range code) (firstOfPair range code) (secondOfPair range code) h
+
+    pub first-late : gapFrom n (hour f) a ≡ false → Halves.Unsound ≡ pairAt n ks f range
+    first-late x = rw (coded .isSound, rw (coded .first) at x)
+
+    pub second-late : gapFrom n (hour f) a ≡ true → gapFrom n (hour (f + 1)) b ≡ false
+        → Halves.Unsound ≡ pairAt n ks f range
+    second-late x y = rw (coded .isSound, rw (coded .first) at x, rw (coded .second) at y)
+
+    pub both-out : gapFrom n (hour f) a ≡ true → gapFrom n (hour (f + 1)) b ≡ true
+        → Halves.Sound a b ≡ pairAt n ks f range
+    both-out x y =
+        rw (coded .isSound, rw (coded .first) at x, rw (coded .second) at y, coded .first, coded .second)
+
 module _ (n : ℕ) (cs : List ℤ) (ks : List ℕ) (i : NodeId) (f w : ℕ) (range : Range) where
   abbrev T : Table
   T = lent cs ks
@@ -71,7 +95,7 @@ module _ (n : ℕ) (cs : List ℤ) (ks : List ℕ) (i : NodeId) (f w : ℕ) (ran
         soundCode range c && gapFrom n (hour f) (firstOfPair range c) && gapFrom n (hour (f + 1)) (secondOfPair range c)
 
     module _ (l : ℕ) (v : Node) (at : Located l v (i .0) f w) (e : range ≡ reached l T v) where
-      sound-pair : soundNode l n T v ≡ pairIsSound
+      pub sound-pair : soundNode l n T v ≡ pairIsSound
       unfolding soundNode
       sound-pair =
           let first : start l (left v) ≡ f = left-located at two .begins in
@@ -85,26 +109,15 @@ module _ (n : ℕ) (cs : List ℤ) (ks : List ℕ) (i : NodeId) (f w : ℕ) (ran
     pair-examined : (r : Verdict) → checkOf r ≡ examineNode i pairIsSound → Examined n cs ks i f w range r
     pair-examined r e = record { below = λ l v at g. e ∙ sym (pair-alone l v at g) }
 
-    pub code-unsound : pairOf range c ≡ Halves.Unsound → Examined n cs ks i f w range (Verdict.Unsound i)
-    code-unsound h =
-        let s = not-stepped (soundCode range c) (firstOfPair range c) (secondOfPair range c) h in
-        pair-examined (Verdict.Unsound i) (rw s)
+    pub pair-unsound : pairAt n ks f range ≡ Halves.Unsound → Examined n cs ks i f w range (Verdict.Unsound i)
+    pair-unsound h =
+        pair-examined (Verdict.Unsound i)
+        (rw (not-stepped pairIsSound (firstOfPair range c) (secondOfPair range c) h))
 
-    module _ (a b : Range) (h : pairOf range c ≡ Halves.Sound a b) where
-      abbrev C : Stepped (soundCode range c) (firstOfPair range c) (secondOfPair range c) a b
-      C = stepped (soundCode range c) (firstOfPair range c) (secondOfPair range c) h
-
-      pub first-late : gapFrom n (hour f) a ≡ false → Examined n cs ks i f w range (Verdict.Unsound i)
-      first-late x = pair-examined (Verdict.Unsound i) (rw (C .isSound, rw (C .first) at x))
-
-      pub second-late : gapFrom n (hour f) a ≡ true → gapFrom n (hour (f + 1)) b ≡ false
-          → Examined n cs ks i f w range (Verdict.Unsound i)
-      second-late x y =
-          pair-examined (Verdict.Unsound i) (rw (C .isSound, rw (C .first) at x, rw (C .second) at y))
-
-      pub pair-sound : gapFrom n (hour f) a ≡ true → gapFrom n (hour (f + 1)) b ≡ true
-          → Examined n cs ks i f w range Verdict.Sound
-      pair-sound x y = pair-examined Verdict.Sound (rw (C .isSound, rw (C .first) at x, rw (C .second) at y))
+    pub pair-sound : (a b : Range) → pairAt n ks f range ≡ Halves.Sound a b → Examined n cs ks i f w range Verdict.Sound
+    pair-sound a b h =
+        pair-examined Verdict.Sound
+        (rw (stepped pairIsSound (firstOfPair range c) (secondOfPair range c) h .isSound))
 
   -- At a node of two halves.
   module _ (wide : 4 ≤ w) where
@@ -118,7 +131,7 @@ module _ (n : ℕ) (cs : List ℤ) (ks : List ℕ) (i : NodeId) (f w : ℕ) (ran
     two = omega arith
 
     module _ (l : ℕ) (v : Node) (at : Located l v (i .0) f w) (g : range ≡ reached l T v) where
-      sound-node : soundNode l n T v ≡ soundDetails range d e
+      pub sound-node : soundNode l n T v ≡ soundDetails range d e
       unfolding soundNode
       sound-node = rw (pair-no l v (above-pairs at wide), at .numbered, ← g)
 

@@ -17,14 +17,13 @@ use Rattle.om3.specs.Series.{badHours, levels, P}
 use Rattle.om3.specs.Nodes.{root}
 use Rattle.om3.specs.Checks.{Check, passes, refuses}
 use Rattle.om3.specs.Sound.{soundRootValues, nodesBelow, soundTable, soundNode}
-use Rattle.om3.specs.Refusals.{examineTable, turningBackChecks}
+use Rattle.om3.specs.Refusals.{Enough, examineTable, turningBackChecks}
 use Rattle.om3.proofs.Making.{good-some}
 use Rattle.om3.proofs.Tests.{and-right}
 use Rattle.om3.proofs.Levels.{n≤P}
 use Rattle.om3.proofs.Located.{root-located}
 use Rattle.om3.proofs.TurnedBack.{turned-length}
 use Rattle.om3.proofs.Examined.{examine-sound}
-use Rattle.om3.proofs.TableChecks.{Enough}
 use Rattle.om3.proofs.TableChecks as checked
 use Rattle.node.specs.declared.Root.{Root}
 use Rattle.node.specs.Steps.{rootOf}

@@ -3,17 +3,18 @@
 --   TableLent n cs ks     n is at most 16,384, and both buffers are long enough
 --   checkOf r             what a verdict says, as a check
 --   examineNodes          the examination of a list of nodes
+--   pairAt n ks f r       the hours of the pair at hours f and f + 1, or that it is unsound
 --   Examined              the contract of the examination below a node; PairExamined, of a pair's; PairsExamined, of
 --                         two neighbouring pairs'
 --   withHours             a buffer with the hours below a node written
 --   Written               the contract of writing the hours below a node; PairWritten, of a pair's
 --   TurnedBack            the contract of `turn_back`: its answer, and the lent hours whole
 use mathlib.Core.Path.{_≡_}
-use mathlib.Core.Bool.{true}
+use mathlib.Core.Bool.{true, cond, _&&_}
 use mathlib.Core.List.{List, map}
 use Prim.Native.Nat.{ℕ, zero, suc, _+_, _-_, _/_, _≤_, _<_}
 use lib.IntN.{ℤ}
-use lib.ListN.{length, set}
+use lib.ListN.{length, getD, set}
 use Rattle.words.specs.Constants.{largestHours}
 use Rattle.words.specs.Said.{lowOf}
 use Rattle.words.specs.declared.NodeId.{NodeId}
@@ -21,14 +22,15 @@ use Rattle.words.specs.declared.Range.{Range}
 use Rattle.words.specs.declared.Refusal.the-variants as refusal
 use Rattle.words.specs.declared.Taking.{Taking}
 use Rattle.om3.specs.Lists.{every}
-use Rattle.om3.specs.Series.{levels, P}
+use Rattle.om3.specs.Series.{levels, P, hour}
 use Rattle.om3.specs.Nodes.{Node, number, left, right, Located}
 use Rattle.om3.specs.Table.{Table, lent}
-use Rattle.om3.specs.Down.{reached, turnedBack}
+use Rattle.om3.specs.Down.{firstOfPair, secondOfPair, reached, turnedBack}
 use Rattle.om3.specs.Checks.{Check, passes, refuses, inOrder}
-use Rattle.om3.specs.Sound.{soundNode, nodesBelow, examineNode}
+use Rattle.om3.specs.Sound.{soundCode, gapFrom, soundNode, nodesBelow, examineNode}
 use Rattle.om3.specs.Refusals.{turningBackChecks}
 use Rattle.om3.specs.Calls.{takingBy, writtenBy}
+use Rattle.node.specs.declared.Halves.{Halves}
 use Rattle.turning.specs.declared.Verdict.{Verdict}
 
 pub record TableLent (n : ℕ) (cs : List ℤ) (ks : List ℕ) : Type 0 where
@@ -44,6 +46,14 @@ checkOf (Verdict.Unsound i) = refuses (refusal.Unsound i)
 -- The nodes of a list, examined in its order.
 abbrev pub examineNodes : (l n : ℕ) → Table → List Node → Check
 examineNodes l n t vs = inOrder (map (λ v. examineNode (number v) (soundNode l n t v)) vs)
+
+-- The two hours of the pair at hours f and f + 1 with its range, or that it is unsound. [sound 4]
+abbrev pub pairAt : (n : ℕ) → List ℕ → ℕ → Range → Halves
+pairAt n ks f r =
+    let c = getD ks (f / 2) 0 in
+    cond (soundCode r c && gapFrom n (hour f) (firstOfPair r c) && gapFrom n (hour (f + 1)) (secondOfPair r c))
+    (Halves.Sound (firstOfPair r c) (secondOfPair r c))
+    Halves.Unsound
 
 -- Node v with the range reached there, and all nodes below it. [sound 6]
 pub record Examined (n : ℕ) (cs : List ℤ) (ks : List ℕ) (i : NodeId) (f w : ℕ) (range : Range)

@@ -15,14 +15,13 @@ use Rattle.words.specs.declared.Writing.{Writing}
 use Rattle.om3.specs.Series.{badHours, levels, P}
 use Rattle.om3.specs.Table.{lent}
 use Rattle.om3.specs.Checks.{Check, passes, refuses}
-use Rattle.om3.specs.Refusals.{examineTable}
+use Rattle.om3.specs.Refusals.{Enough, examineTable}
 use Rattle.om3.specs.Calls.{filled}
 use Rattle.om3.specs.Record.{lengthFor, recordSize, recordOf, writingChecks}
 use Rattle.om3.proofs.Making.{good-some}
 use Rattle.om3.proofs.Levels.{levels-some}
 use Rattle.om3.proofs.Examined.{examine-sound}
 use Rattle.om3.proofs.Threes.{sound-threes}
-use Rattle.om3.proofs.TableChecks.{Enough}
 use Rattle.om3.proofs.TableChecks as checked
 use Rattle.packing.specs.Packing.{EachInThree}
 use Rattle.turning.specs.declared.Verdict.{Verdict}

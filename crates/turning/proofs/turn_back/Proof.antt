@@ -11,7 +11,8 @@ use borrow.Author.Needs.{needs}
 use Rattle.om3.proofs.Making.{good-some}
 use Rattle.om3.proofs.Levels.{2≤P, P-even}
 use Rattle.om3.specs.Series.{badHours}
-use Rattle.om3.proofs.TableChecks.{Enough, enough}
+use Rattle.om3.specs.Refusals.{Enough}
+use Rattle.om3.proofs.TableChecks.{enough}
 use Rattle.node.specs.declared.Root.{Root}
 use Rattle.node.specs.Steps.{rootOf}
 use Rattle.turning.proofs.AtRoot.{root-read, root-readings}

@@ -7,7 +7,8 @@ use lib.Seq.{length-take-le}
 use borrow.Author.Needs.{needs}
 use Rattle.om3.specs.Series.{badHours}
 use Rattle.om3.specs.Record.{recordSize}
-use Rattle.om3.proofs.TableChecks.{Enough, enough}
+use Rattle.om3.specs.Refusals.{Enough}
+use Rattle.om3.proofs.TableChecks.{enough}
 use Rattle.om3.proofs.Making.{good-some}
 use Rattle.om3.proofs.Levels.{P-most}
 use Rattle.writing.proofs.Written as laws
