@@ -1,0 +1,164 @@
+-- `walk` narrows, and then answers what the node adds that narrowing came to, or calls itself on the two halves that it
+-- came to, the left one first; each covers fewer hours. Assumes nothing.
+use mathlib.Core.Path.{refl}
+use Prim.Native.Nat.{ℕ, _<_}
+use native.Mathlib.Omega.{arith}
+use borrow.Fn.Kinds.{In}
+use borrow.Fn.PlainCycle.{Measures, is, falls, and}
+use borrow.Author.Needs.{needs}
+use Rattle.walking.specs.Walking.{WalkedFrom}
+use Rattle.walking.specs.Narrowing.{EndsAt, SplitsAt}
+use Rattle.walking.specs.declared.Walked.{Walked}
+use Rattle.walking.proofs.Walking as laws
+use Rattle.walking.proofs.walk.Reads as own
+use Rattle.walking.proofs.walk.Kinds as kinds
+use Rattle.walking.proofs.+walk.Lts-walk as lts
+use Rattle.walking.proofs.+walk.{statement}
+use Rattle.walking.proofs.+walk.Tie.{close}
+use Rattle.walking.proofs.both_seen.Reads as both-seen-reads
+use Rattle.walking.proofs.unopened.Reads as unopened-reads
+use Rattle.walking.proofs.narrow.Reads as narrow-reads
+
+abbrev hoursOf : Measures 2 kinds.ps ℕ
+hoursOf κs a = a .1 .1 .1 .1 .1 .1 .0 .hours
+
+abbrev at : ℕ → In 2 kinds.ps
+at t = and 2 kinds.ps (is 2 kinds.ps hoursOf t) own.Pre
+
+abbrev below : ℕ → In 2 kinds.ps
+below t = and 2 kinds.ps (falls 2 kinds.ps _<_ hoursOf t) own.Pre
+
+abbrev callees : ℕ → lts.Claims
+callees t = (
+  narrow-reads.Asked,
+  narrow-reads.Learnt,
+  unopened-reads.Asked,
+  unopened-reads.Learnt,
+  below t,
+  own.Post,
+  both-seen-reads.Asked,
+  both-seen-reads.Learnt,
+)
+
+-- Narrowing came to a node that is not opened.
+ended : (t : ℕ) (c : lts.After-at (callees t) (at t) own.Post) →
+    (let a = c .before .before .before .before .args in
+    let e = c .at .given .0 in
+    EndsAt (a .n) (a .coefficients .now) (a .codes .now) (a .x) (a .stop) (a .before) (a .start) (e .0) (e .1 .0))
+ended t c = rw (c .at .given .1) at (c .before .before .narrow .ensures)
+
+-- Narrowing came to two halves.
+split : (t : ℕ) (c : lts.After-first (callees t) (at t) own.Post) →
+    (let a = c .before .before .before .before .args in
+    let e = c .first .given .0 in
+    SplitsAt (a .n) (a .coefficients .now) (a .codes .now) (a .x) (a .stop) (a .before) (a .start)
+    (e .0) (e .1 .0) (e .1 .1 .0))
+split t c = rw (c .first .given .1) at (c .before .before .narrow .ensures)
+
+-- The left half was walked through.
+left-seen : (t : ℕ) (c : lts.After-left (callees t) (at t) own.Post) →
+    (let c4 = c .before .before .before .before in
+    let a = c4 .before .before .before .before .args in
+    let e = c4 .first .given .0 in
+    WalkedFrom (a .n) (a .coefficients .now) (a .codes .now) (a .x) (a .stop) (e .1 .1 .0) (e .0)
+    (Walked.Through (c .left .given .0 .0)))
+left-seen t c = rw (c .left .given .1) at (c .before .before .walk .ensures)
+
+narrow-requires : (t : ℕ) → lts.Need-narrow-requires (callees t) (at t) own.Post
+narrow-requires t c κs = c .before .pre .1
+
+enum-known-i : (t : ℕ) → lts.Need-enum-known-i (callees t) (at t) own.Post
+enum-known-i t c = search needs
+
+enum-known-at : (t : ℕ) → lts.Need-enum-known-at (callees t) (at t) own.Post
+enum-known-at t c = search needs
+
+unopened-requires : (t : ℕ) → lts.Need-unopened-requires (callees t) (at t) own.Post
+unopened-requires t c κs =
+    let start = c .before .before .before .before .before in
+    omega (arith, ended t (c .before) .lent .codes, start .good)
+
+enum-known-first : (t : ℕ) → lts.Need-enum-known-first (callees t) (at t) own.Post
+enum-known-first t c = search needs
+
+walk-requires : (t : ℕ) → lts.Need-walk-requires (callees t) (at t) own.Post
+walk-requires t c κs =
+    let start = c .before .before .before .before .before in
+    let s = split t (c .before) in (
+      omega (arith, s .less-first, start .pre .0),
+      (s .before, (omega (arith, s .room, s .after .some), start .pre .1 .1 .1)),
+    )
+
+enum-known-left : (t : ℕ) → lts.Need-enum-known-left (callees t) (at t) own.Post
+enum-known-left t c = search needs
+
+enum-told : (t : ℕ) → lts.Need-enum-told (callees t) (at t) own.Post
+enum-told t c = search needs
+
+returns : (t : ℕ) → lts.Need-returns (callees t) (at t) own.Post
+returns t c =
+    let c2 = c .before .before in
+    let told = c .enum-told .given .1 in
+    rw told (split t (c2 .before .before) .left-unsound _ (rw told at (c2 .walk .ensures)))
+
+walk-requires-2 : (t : ℕ) → lts.Need-walk-requires-2 (callees t) (at t) own.Post
+walk-requires-2 t c κs =
+    let c5 = c .before .before .before .before .before in
+    let start = c5 .before .before .before .before in
+    let s = split t c5 in
+    let few = left-seen t (c .before) .few _ refl in
+    (omega (arith, s .less-second, start .pre .0), (s .after, (omega (arith, s .room), start .pre .1 .1 .1)))
+
+enum-known-right : (t : ℕ) → lts.Need-enum-known-right (callees t) (at t) own.Post
+enum-known-right t c = search needs
+
+enum-told-2 : (t : ℕ) → lts.Need-enum-told-2 (callees t) (at t) own.Post
+enum-told-2 t c = search needs
+
+returns-2 : (t : ℕ) → lts.Need-returns-2 (callees t) (at t) own.Post
+returns-2 t c =
+    let c2 = c .before .before in
+    let c4 = c2 .before .before in
+    let told = c .enum-told2 .given .1 in
+    rw told
+    (split t (c4 .before .before .before .before) .right-unsound _ (left-seen t c4) _ (rw told at (c2 .walk2 .ensures)))
+
+both-seen-requires : (t : ℕ) → lts.Need-both-seen-requires (callees t) (at t) own.Post
+both-seen-requires t c κs = search needs
+
+returns-3 : (t : ℕ) → lts.Need-returns-3 (callees t) (at t) own.Post
+returns-3 t c = rw (c .before .i .given .1) at (c .before .before .before .narrow .ensures)
+
+returns-4 : (t : ℕ) → lts.Need-returns-4 (callees t) (at t) own.Post
+returns-4 t c =
+    let e = ended t (c .before .before) in
+    rw (c .unopened .ensures) (e .rest _ (laws.unopened-walked _ _ _ _ _ _ _ (e .closed) (e .lent)))
+
+returns-5 : (t : ℕ) → lts.Need-returns-5 (callees t) (at t) own.Post
+returns-5 t c =
+    let c2 = c .before .before in
+    let c6 = c2 .before .before .before .before in
+    let right = rw (c2 .right .given .1) at (c2 .before .before .walk2 .ensures) in
+    rw (c .both-seen .ensures) (split t (c6 .before .before .before .before) .both-seen _ (left-seen t c6) _ right)
+
+pub +walk-spec : {M : Type 1} → statement M
++walk-spec =
+    close hoursOf λ t.
+    lts.spec (callees t) (at t) own.Post
+    (narrow-requires t)
+    (enum-known-i t)
+    (enum-known-at t)
+    (unopened-requires t)
+    (enum-known-first t)
+    (walk-requires t)
+    (enum-known-left t)
+    (enum-told t)
+    (returns t)
+    (walk-requires-2 t)
+    (enum-known-right t)
+    (enum-told-2 t)
+    (returns-2 t)
+    (both-seen-requires t)
+    (returns-3 t)
+    (returns-4 t)
+    (returns-5 t)

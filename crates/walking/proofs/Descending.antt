@@ -1,0 +1,199 @@
+-- What the descent from a node promises, for each way it can go on: the node is a single hour, it is unsound, or it is
+-- sound and the descent goes on with the half that it takes. Assumes nothing.
+use mathlib.Core.Path.{_≡_, refl, sym, ap, _∙_}
+use mathlib.Core.Bool.{true, false}
+use mathlib.Core.List.{List, _∷_}
+use mathlib.Core.Logic.{⊎-elim}
+use Prim.Native.Nat.{ℕ, suc, _+_, _-_, _≤_}
+use native.Mathlib.Omega.{arith}
+use lib.IntN.{ℤ}
+use Rattle.signed.proofs.Rules.{signed}
+use Rattle.words.specs.Said.{lowOf}
+use Rattle.words.specs.declared.Column.{Column}
+use Rattle.words.specs.declared.NodeId.{NodeId}
+use Rattle.words.specs.declared.Range.{Range}
+use Rattle.words.specs.declared.Range.the-variants.{Empty, Held}
+use Rattle.words.specs.declared.Reading.{Reading}
+use Rattle.om3.specs.Nodes.{Node, number, left, right}
+use Rattle.om3.specs.Ranges.{Readings}
+use Rattle.om3.specs.Table.{Table, lent}
+use Rattle.om3.specs.Down.{reached}
+use Rattle.om3.specs.Checks.{inOrder}
+use Rattle.om3.specs.Sound.{soundNode}
+use Rattle.om3.specs.Finished.{walk, walkEnd, readingAt}
+use Rattle.om3.proofs.Tests.{below-or-not}
+use Rattle.om3.proofs.Nodes.{width-half, start-hour}
+use Rattle.om3.proofs.Intervals.{width-some}
+use Rattle.om3.proofs.Located.{above-hours}
+use Rattle.node.specs.declared.Halves.{Halves}
+use Rattle.turning.proofs.Answers.{Stepped, stepped, not-stepped}
+use Rattle.walking.specs.Nodes.{At, Below, leftReached, rightReached}
+use Rattle.walking.specs.Walking.{SteppedDown}
+use Rattle.walking.specs.Descending.{takesLeft, towards, Descends, Small, DescendedFrom}
+use Rattle.walking.specs.declared.Reached.{Reached}
+use Rattle.walking.specs.declared.Towards.{Towards}
+use Rattle.walking.specs.declared.Descended.{Descended}
+use Rattle.walking.proofs.Touching.{left-at, right-at}
+use Rattle.walking.proofs.Lending.{left-below, right-below}
+
+not-came : {i : NodeId} {r : Reading} {m : ℕ} → Descended.Unsound i ≡ Descended.Came r m → ⊥
+not-came e = let z : _≡_ {A = ℕ} 0 1 = cc in omega arith
+
+came-same : {r q : Reading} {m k : ℕ} → Descended.Came r m ≡ Descended.Came q k → (r ≡ q) × (m ≡ k)
+came-same e = (cc, cc)
+
+-- The half that is taken, by what is reached at both.
+taken-left : (l : ℕ) (t : Table) (w : Towards) (v : Node)
+    → takesLeft w (reached l t (left v)) (reached l t (right v)) ≡ true → towards l t w v ≡ left v
+taken-left l t Towards.First v e = rw e
+taken-left l t Towards.Last v e = rw e
+
+taken-right : (l : ℕ) (t : Table) (w : Towards) (v : Node)
+    → takesLeft w (reached l t (left v)) (reached l t (right v)) ≡ false → towards l t w v ≡ right v
+taken-right l t Towards.First v e = rw e
+taken-right l t Towards.Last v e = rw e
+
+-- The low of a range of readings is small; so is the gap mark of an empty one.
+small-low : (r : Range) → Readings r → Small (lowOf r)
+small-low Empty p = omega signed
+small-low (Held a b) p = omega signed
+
+-- One level of a walk.
+module _ (half : Node → Node) (h k : ℕ) (v u : Node) (more : h ≡ suc k) (takes : half v ≡ u) where
+  walk-more : walk half h v ≡ v ∷ walk half k u
+  unfolding walk
+  walk-more = rw (more, takes)
+
+  end-more : walkEnd half h v ≡ walkEnd half k u
+  unfolding walkEnd
+  end-more = rw (more, takes)
+
+module _ (n : ℕ) (cs : List ℤ) (ks : List ℕ) (w : Towards) where
+  abbrev T : Table
+  T = lent cs ks
+
+  abbrev From : ℕ → Reached → Descended → Type 0
+  From c at r = DescendedFrom n cs ks w c at r
+
+  -- A single hour is its own end.
+  module _ (c : ℕ) (at : Reached) (below : Below cs ks at) (one : at .hours ≤ 1) where
+    single : (l : ℕ) (v : Node) → At l T v at → v .level ≡ l
+    single l v here =
+        let covers = here .located .covers in
+        let deep = here .located .deep in
+        let none : Column = record { from = at .from; upto = at .from } in
+        ⊎-elim (λ h. absurd (omega (arith, width-half l v h, width-some l none (left v))))
+        (λ h. omega arith)
+        (below-or-not (v .level) l)
+
+    abbrev reading : Reading
+    reading = record { hour = at .from; grams = lowOf (at .range) }
+
+    reading-same : (l : ℕ) (v : Node) → At l T v at → reading ≡ readingAt l T v
+    reading-same l v here =
+        let index = sym (here .located .begins) ∙ start-hour l v (single l v here) in
+        let low = ap lowOf (here .range) in
+        λ k. record { hour = record { 0 = index k }; grams = low k }
+
+    pub hour-came : From c at (Descended.Came reading c)
+    unfolding walk walkEnd inOrder
+    hour-came =
+        record {
+          few = λ r m e. omega (arith, came-same e .1, below .some);
+          small = λ r m e. rw (sym (came-same e .0)) (small-low (at .range) (below .readings));
+          descends = λ l v here.
+              let z = single l v here in
+              let none : l - v .level ≡ 0 = omega arith in
+              record {
+                examined = rw none;
+                came = λ r m e.
+                    let same = came-same e in
+                    rw none (sym (same .0) ∙ reading-same l v here, omega (arith, same .1));
+              };
+        }
+
+  module _ (c : ℕ) (at : Reached) (two : 2 ≤ at .hours) where
+    one-more : (l : ℕ) (v : Node) → At l T v at → l - v .level ≡ suc (l - suc (v .level))
+    one-more l v here = let h = above-hours (here .located) two in omega arith
+
+    pub node-unsound : SteppedDown n cs ks at Halves.Unsound → From c at (Descended.Unsound (at .id))
+    unfolding walk inOrder
+    node-unsound step =
+        record {
+          few = λ r m e. absurd (not-came e);
+          small = λ r m e. absurd (not-came e);
+          descends = λ l v here.
+              let bad = not-stepped (soundNode l n T v) _ _ (sym (step .halves l v here)) in
+              let same : number v ≡ at .id = ap (λ (k : ℕ). record { 0 = k }) (here .located .numbered) in
+              record { examined = rw (one-more l v here, bad, same); came = λ r m e. absurd (not-came e) };
+        }
+
+    -- A sound node: the descent from the half that is taken is the rest of it.
+    module _ (a b : Range) (step : SteppedDown n cs ks at (Halves.Sound a b)) where
+      abbrev S : (l : ℕ) (v : Node) → At l T v at
+          → Stepped (soundNode l n T v) (reached l T (left v)) (reached l T (right v)) a b
+      S l v here =
+          stepped (soundNode l n T v) (reached l T (left v)) (reached l T (right v)) (sym (step .halves l v here))
+
+      goes-on : (l : ℕ) (v u : Node) → At l T v at → towards l T w v ≡ u
+          → u .level ≡ suc (v .level) → (r : Descended) → Descends l n T w (c + 1) u r → Descends l n T w c v r
+      unfolding inOrder
+      goes-on l v u here takes deeper r D =
+          let more : l - v .level ≡ suc (l - u .level) = let h = above-hours (here .located) two in omega arith in
+          record {
+            examined =
+                rw (walk-more (towards l T w) _ _ v u more takes, S l v here .isSound) (D .examined);
+            came = λ q m e.
+                let rest = D .came q m e in
+                let end = ap (readingAt l T) (end-more (towards l T w) _ _ v u more takes) in
+                (rest .0 ∙ sym end, omega (arith, rest .1));
+          }
+
+      pub goes-left : takesLeft w a b ≡ true → (r : Descended) → From (c + 1) (leftReached at a) r → From c at r
+      goes-left takes r D =
+          record {
+            few = λ q m e. omega (arith, D .few q m e);
+            small = D .small;
+            descends = λ l v here.
+                let s = S l v here in
+                let e = taken-left l T w v (rw (s .first, s .second) at takes) in
+                goes-on l v (left v) here e refl r (D .descends l (left v) (left-at here two (s .first)));
+          }
+
+      pub goes-right : takesLeft w a b ≡ false → (r : Descended) → From (c + 1) (rightReached at b) r → From c at r
+      goes-right takes r D =
+          record {
+            few = λ q m e. omega (arith, D .few q m e);
+            small = D .small;
+            descends = λ l v here.
+                let s = S l v here in
+                let e = taken-right l T w v (rw (s .first, s .second) at takes) in
+                goes-on l v (right v) here e refl r (D .descends l (right v) (right-at here two (s .second)));
+          }
+
+  -- Where a descent has come to: a node that is lent, from which a descent is one from the start.
+  pub record CameTo (start at : Reached) (c : ℕ) : Type 0 where
+    pub below : Below cs ks at
+    pub room : c + at .hours ≤ start .hours
+    pub rest : (r : Descended) → From c at r → From 0 start r
+
+  pub at-start : (start : Reached) → Below cs ks start → CameTo start start 0
+  at-start start b = record { below = b; room = omega arith; rest = λ r d. d }
+
+  module _ (start at : Reached) (c : ℕ) (came : CameTo start at c) (two : 2 ≤ at .hours) where
+    module _ (a b : Range) (step : SteppedDown n cs ks at (Halves.Sound a b)) where
+      pub came-left : takesLeft w a b ≡ true → CameTo start (leftReached at a) (c + 1)
+      came-left takes =
+          record {
+            below = left-below cs ks at (came .below) two a (step .readings a b refl .0);
+            room = omega (arith, came .room);
+            rest = λ r d. came .rest r (goes-left c at two a b step takes r d);
+          }
+
+      pub came-right : takesLeft w a b ≡ false → CameTo start (rightReached at b) (c + 1)
+      came-right takes =
+          record {
+            below = right-below cs ks at (came .below) two b (step .readings a b refl .1);
+            room = omega (arith, came .room);
+            rest = λ r d. came .rest r (goes-right c at two a b step takes r d);
+          }

@@ -1,0 +1,94 @@
+-- The walk from the root values: node 0 is examined first, and a walk from node 1 is over the whole table. Assumes
+-- nothing.
+use mathlib.Core.Path.{_≡_, refl, _∙_}
+use mathlib.Core.List.{List}
+use Prim.Native.Nat.{ℕ, _-_, _≤_}
+use native.Mathlib.Omega.{arith}
+use lib.IntN.{ℤ, pos}
+use lib.ListN.{getD}
+use Rattle.words.specs.declared.Column.{Column}
+use Rattle.words.specs.declared.Range.{Range}
+use Rattle.om3.specs.Series.{levels, P}
+use Rattle.om3.specs.Nodes.{root}
+use Rattle.om3.specs.Table.{Table, lent}
+use Rattle.om3.specs.Down.{rootRange}
+use Rattle.om3.specs.Checks.{inOrder}
+use Rattle.om3.specs.Sound.{soundRootValues, examine}
+use Rattle.om3.specs.Stopped.{outer, innerNodes}
+use Rattle.om3.proofs.Levels.{2≤P, P-even}
+use Rattle.om3.proofs.Located.{root-located}
+use Rattle.om3.proofs.Walked.{visited-root}
+use Rattle.node.specs.declared.Root.{Root}
+use Rattle.node.specs.Steps.{rootOf}
+use Rattle.turning.specs.Turning.{TableLent}
+use Rattle.turning.proofs.Answers.{Rooted, rooted, not-rooted}
+use Rattle.turning.proofs.AtRoot.{root-readings, root-reached}
+use Rattle.walking.specs.Nodes.{At, Below}
+use Rattle.walking.specs.Seen.{seenOf, tableSeen}
+use Rattle.walking.specs.Walking.{WalkedFrom, TableWalked}
+use Rattle.walking.specs.declared.Reached.{Reached}
+use Rattle.walking.specs.declared.Walked.{Walked}
+use Rattle.walking.proofs.SeenTogether.{seen-same}
+use Rattle.walking.proofs.Walking.{not-through}
+
+module _ (n : ℕ) (cs : List ℤ) (ks : List ℕ) (x : Column) (stop : ℕ) where
+  abbrev l : ℕ
+  l = levels n
+
+  abbrev T : Table
+  T = lent cs ks
+
+  abbrev a : ℤ
+  a = getD cs 0 (pos 0)
+
+  abbrev b : ℤ
+  b = getD cs 1 (pos 0)
+
+  pub root-unsound : rootOf a b ≡ Root.Unsound → TableWalked n cs ks x stop (Walked.Unsound (record { 0 = 0 }))
+  unfolding examine inOrder
+  root-unsound h =
+      record {
+        few = λ s e. absurd (not-through e);
+        below = λ s e. absurd (not-through e);
+        examined = λ d asked. rw (not-rooted (soundRootValues a b) (rootRange a b) h);
+        saw = λ d asked s e. absurd (not-through e);
+      }
+
+  module _ (range : Range) (h : rootOf a b ≡ Root.Sound range) where
+    -- Node 1, as the code carries it.
+    abbrev top : Reached
+    top = record { id = record { 0 = 1 }; from = record { 0 = 0 }; hours = P n; range = range }
+
+    top-at : At l T root top
+    top-at = record { located = root-located l; range = root-reached n cs ks range h }
+
+    pub top-below : TableLent n cs ks → Below cs ks top
+    top-below room =
+        record {
+          some = omega (arith, 2≤P n);
+          readings = root-readings cs h;
+          details = omega (arith, room .coefficients, P-even n);
+          codes = omega (arith, room .codes, P-even n);
+        }
+
+    abbrev H : Rooted (soundRootValues a b) (rootRange a b) range
+    H = rooted (soundRootValues a b) (rootRange a b) h
+
+    abbrev all-levels : l - 0 ≡ l
+    all-levels = omega arith
+
+    seen-table : (d : ℕ) → seenOf l T x d 0 root ≡ tableSeen l T x d
+    unfolding outer innerNodes
+    seen-table d = rw all-levels (seen-same refl refl (omega arith))
+
+    pub top-walked : (r : Walked) → WalkedFrom n cs ks x stop 0 top r → TableWalked n cs ks x stop r
+    unfolding examine inOrder
+    top-walked r W =
+        record {
+          few = λ s e. omega (arith, W .few s e);
+          below = W .below;
+          examined = λ d asked.
+              let w = W .walks l d root asked top-at (visited-root l T x d) in
+              rw (H .isSound) (rw all-levels at (w .examined));
+          saw = λ d asked s e. W .walks l d root asked top-at (visited-root l T x d) .saw s e ∙ seen-table d;
+        }

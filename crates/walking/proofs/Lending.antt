@@ -1,0 +1,54 @@
+-- What is lent for a node is lent for its halves, and for the inner nodes of two walks together. Assumes nothing.
+use mathlib.Core.Bool.{Bool, true, false, cond}
+use mathlib.Core.List.{List}
+use Prim.Native.Nat.{ℕ, _+_, _/_, _≤_}
+use native.Mathlib.Nat.{mul-le-mul-left}
+use native.Mathlib.Omega.{arith}
+use lib.IntN.{ℤ}
+use lib.ListN.{length}
+use Rattle.words.specs.declared.Range.{Range}
+use Rattle.om3.specs.Ranges.{Readings}
+use Rattle.om3.proofs.Rooms.{left-room, right-room}
+use Rattle.walking.specs.Nodes.{Below, leftReached, rightReached}
+use Rattle.walking.specs.Seen.{bothInner}
+use Rattle.walking.specs.Walking.{InnerBelow}
+use Rattle.walking.specs.declared.Reached.{Reached}
+use Rattle.walking.specs.declared.Inner.{Inner}
+
+-- What is lent for a node of two hours or more is lent for its halves.
+module _ (cs : List ℤ) (ks : List ℕ) (at : Reached) (below : Below cs ks at) (two : 2 ≤ at .hours) where
+  pub left-below : (r : Range) → Readings r → Below cs ks (leftReached at r)
+  left-below r p =
+      record {
+        some = omega arith;
+        readings = p;
+        details = left-room (at .id .0) (at .hours / 2) (length cs) (below .details);
+        codes = omega (arith, below .codes);
+      }
+
+  pub right-below : (r : Range) → Readings r → Below cs ks (rightReached at r)
+  right-below r p =
+      record {
+        some = omega arith;
+        readings = p;
+        details = right-room (at .id .0) (at .hours / 2) (length cs) (below .details);
+        codes = omega (arith, below .codes);
+      }
+
+  -- Its number is not too large to be doubled.
+  pub small-number : at .id .0 + 1 ≤ length cs
+  small-number =
+      let one : 1 ≤ at .hours / 2 = omega arith in
+      omega (arith, mul-le-mul-left (at .id .0 + 1) one, below .details)
+
+-- The inner nodes of two walks.
+module _ (cs : List ℤ) (ks : List ℕ) where
+  pub alone-below : (b : Bool) (range : Range) (at : Reached) → Below cs ks at
+      → InnerBelow cs ks (cond b (Inner.Nodes range at at) Inner.Nothing)
+  alone-below true range at p = (p, p)
+  alone-below false range at p = tt
+
+  pub both-below : (i j : Inner) → InnerBelow cs ks i → InnerBelow cs ks j → InnerBelow cs ks (bothInner i j)
+  both-below Inner.Nothing j p q = q
+  both-below (Inner.Nodes r first last) Inner.Nothing p q = p
+  both-below (Inner.Nodes r first last) (Inner.Nodes u first′ last′) p q = (p .0, q .1)

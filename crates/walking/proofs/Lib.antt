@@ -1,0 +1,9 @@
+-- What the proofs of going down rest on, in reading order.
+pub mod Stepping
+pub mod Lending
+pub mod Touching
+pub mod SeenTogether
+pub mod Walking
+pub mod Narrowing
+pub mod FromRoot
+pub mod Descending

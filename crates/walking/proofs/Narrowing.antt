@@ -1,0 +1,88 @@
+-- The narrowing of a walk: a record of what holds wherever it has come to, and how it goes on from there. A walk from
+-- where it has come to is a walk from its start. Assumes nothing.
+use mathlib.Core.Path.{_≡_, refl}
+use mathlib.Core.Bool.{true, false, not}
+use mathlib.Core.List.{List}
+use Prim.Native.Nat.{ℕ, _+_, _*_, _≤_}
+use native.Mathlib.Omega.{arith}
+use lib.IntN.{ℤ}
+use lib.ListN.{length}
+use borrow.Author.Tests.{ltb-true}
+use Rattle.words.specs.declared.Column.{Column}
+use Rattle.words.specs.declared.Range.{Range}
+use Rattle.om3.specs.Ranges.{Readings}
+use Rattle.om3.proofs.Tests.{and-right}
+use Rattle.node.specs.declared.Halves.{Halves}
+use Rattle.walking.specs.Nodes.{Below, leftReached, rightReached, touchesOf, insideOf, openedOf}
+use Rattle.walking.specs.Walking.{SteppedDown, WalkedFrom}
+use Rattle.walking.specs.Narrowing.{EndsAt, SplitsAt}
+use Rattle.walking.specs.declared.Reached.{Reached}
+use Rattle.walking.specs.declared.Walked.{Walked}
+use Rattle.walking.proofs.Lending.{left-below, right-below}
+use Rattle.walking.proofs.Walking as walking
+
+-- A node that is opened covers more hours than those where the walk stops.
+pub opened-hours : (x : Column) (stop : ℕ) (at : Reached) → 1 ≤ stop → openedOf x stop at ≡ true → 2 ≤ at .hours
+opened-hours x stop at one o =
+    let wide = ltb-true stop (at .hours) (and-right (not (insideOf x at)) _ (and-right (touchesOf x at) _ o)) in
+    omega arith
+
+module _ (n : ℕ) (cs : List ℤ) (ks : List ℕ) (x : Column) (stop seen : ℕ) (start : Reached) where
+  -- Where the walk has come to: a node that is lent, with room to count, from which a walk is one from the start.
+  pub record CameTo (at : Reached) (opened : ℕ) : Type 0 where
+    pub below : Below cs ks at
+    pub room : opened + at .hours ≤ 2 * length ks
+    pub within : at .hours ≤ start .hours
+    pub rest : (r : Walked) → WalkedFrom n cs ks x stop opened at r → WalkedFrom n cs ks x stop seen start r
+
+  pub at-start : Below cs ks start → seen + start .hours ≤ 2 * length ks → CameTo start seen
+  at-start b m = record { below = b; room = m; within = omega arith; rest = λ r w. w }
+
+  pub ends : (at : Reached) (opened : ℕ) → CameTo at opened → openedOf x stop at ≡ false
+      → EndsAt n cs ks x stop seen start at opened
+  ends at opened came closed = record { lent = came .below; closed = closed; rest = came .rest }
+
+  module _ (at : Reached) (opened : ℕ) (came : CameTo at opened) (o : openedOf x stop at ≡ true)
+      (two : 2 ≤ at .hours) where
+    abbrev lent : Below cs ks at
+    lent = came .below
+
+    pub unsound : SteppedDown n cs ks at Halves.Unsound → WalkedFrom n cs ks x stop seen start (Walked.Unsound (at .id))
+    unsound step = came .rest _ (walking.node-unsound n cs ks x stop opened at o two lent step)
+
+    module _ (r q : Range) (step : SteppedDown n cs ks at (Halves.Sound r q)) where
+      abbrev p : Readings r × Readings q
+      p = step .readings r q refl
+
+      pub goes-left : touchesOf x (rightReached at q) ≡ false → CameTo (leftReached at r) (opened + 1)
+      goes-left apart =
+          record {
+            below = left-below cs ks at lent two r (p .0);
+            room = omega (arith, came .room);
+            within = omega (arith, came .within);
+            rest = λ z w. came .rest z (walking.only-first n cs ks x stop opened at o two lent r q step apart z w);
+          }
+
+      pub goes-right : touchesOf x (leftReached at r) ≡ false → CameTo (rightReached at q) (opened + 1)
+      goes-right apart =
+          record {
+            below = right-below cs ks at lent two q (p .1);
+            room = omega (arith, came .room);
+            within = omega (arith, came .within);
+            rest = λ z w. came .rest z (walking.only-second n cs ks x stop opened at o two lent r q step apart z w);
+          }
+
+      pub splits : SplitsAt n cs ks x stop seen start (leftReached at r) (rightReached at q) (opened + 1)
+      splits =
+          record {
+            before = left-below cs ks at lent two r (p .0);
+            after = right-below cs ks at lent two q (p .1);
+            room = omega (arith, came .room);
+            less-first = omega (arith, came .within);
+            less-second = omega (arith, came .within);
+            left-unsound = λ i F. came .rest _ (walking.left-unsound n cs ks x stop opened at o two lent r q step i F);
+            right-unsound = λ a F i G.
+                came .rest _ (walking.right-unsound n cs ks x stop opened at o two lent r q step a F i G);
+            both-seen = λ a F b G.
+                came .rest _ (walking.both-seen n cs ks x stop opened at o two lent r q step a F b G);
+          }

@@ -1,0 +1,77 @@
+-- What is seen in two lists of nodes, one after the other, and that nodes that do not touch the column add nothing.
+-- Assumes nothing.
+use mathlib.Core.Path.{_≡_, refl, sym, ap, _∙_}
+use mathlib.Core.Bool.{Bool, true, false, cond}
+use mathlib.Core.List.{List, [], _∷_, _++_, append-nil}
+use Prim.Native.Nat.{ℕ}
+use Rattle.words.specs.declared.Column.{Column}
+use Rattle.words.specs.declared.Range.{Range}
+use Rattle.words.specs.declared.Range.the-variants.{Empty}
+use Rattle.om3.specs.Nodes.{Node}
+use Rattle.om3.specs.Table.{Table}
+use Rattle.om3.specs.Down.{reached}
+use Rattle.om3.specs.Stopped.{rangeOver}
+use Rattle.om3.specs.Finished.{lastOr}
+use Rattle.om3.proofs.Ranges.{both-empty}
+use Rattle.om3.proofs.Walked.{range-append}
+use Rattle.walking.specs.Nodes.{reachedOf, At, touchesOf}
+use Rattle.walking.specs.Seen.{unopenedOf, bothInner, bothSeen, innerOver}
+use Rattle.walking.specs.declared.Reached.{Reached}
+use Rattle.walking.specs.declared.Inner.{Inner}
+use Rattle.walking.specs.declared.Seen.{Seen}
+
+-- Two things seen with the same parts are the same.
+pub seen-same : {o p : Range} {i j : Inner} {c d : ℕ} → o ≡ p → i ≡ j → c ≡ d
+    → _≡_ {A = Seen} (record { outer = o; inner = i; opened = c }) (record { outer = p; inner = j; opened = d })
+seen-same e f g = λ k. record { outer = e k; inner = f k; opened = g k }
+
+-- A node as the code carries it is the node.
+at-same : {l : ℕ} {t : Table} {v : Node} {at : Reached} → At l t v at → at ≡ reachedOf l t v
+at-same here =
+    let i = sym (here .located .numbered) in
+    let f = sym (here .located .begins) in
+    let w = sym (here .located .covers) in
+    λ k. record { id = record { 0 = i k }; from = record { 0 = f k }; hours = w k; range = here .range k }
+
+last-append : (v u : Node) (vs us : List Node) → lastOr v (vs ++ u ∷ us) ≡ lastOr u us
+unfolding lastOr
+last-append v u [] us = refl
+last-append v u (w ∷ vs) us = last-append w u vs us
+
+module _ (l : ℕ) (t : Table) where
+  pub inner-append : (vs us : List Node)
+      → bothInner (innerOver l t vs) (innerOver l t us) ≡ innerOver l t (vs ++ us)
+  inner-append [] us = refl
+  inner-append (v ∷ vs) [] = ap (λ (ws : List Node). innerOver l t (v ∷ ws)) (sym (append-nil vs))
+  inner-append (v ∷ vs) (u ∷ us) =
+      let e = sym (range-append l t (v ∷ vs) (u ∷ us)) in
+      let f = ap (reachedOf l t) (sym (last-append v u vs us)) in
+      λ k. Inner.Nodes (e k) (reachedOf l t v) (f k)
+
+  -- A node alone.
+  pub inner-alone : (b : Bool) (v : Node) {at : Reached} → At l t v at
+      → cond b (Inner.Nodes (at .range) at at) Inner.Nothing ≡ innerOver l t (cond b (v ∷ []) [])
+  unfolding rangeOver lastOr
+  inner-alone true v {at} here =
+      let e = here .range ∙ sym (both-empty (reached l t v)) in
+      let f = at-same here in
+      λ k. Inner.Nodes (e k) (f k) (f k)
+  inner-alone false v here = refl
+
+  pub outer-alone : (b : Bool) (v : Node) {r : Range} → r ≡ reached l t v
+      → cond b r Empty ≡ rangeOver l t (cond b (v ∷ []) [])
+  unfolding rangeOver
+  outer-alone true v e = e ∙ sym (both-empty (reached l t v))
+  outer-alone false v e = refl
+
+-- A node that does not touch the column adds nothing, before or after.
+module _ (x : Column) (at : Reached) (no : touchesOf x at ≡ false) where
+  pub nothing-before : (c : ℕ) (s : Seen) → bothSeen (unopenedOf x c at) s ≡ s
+  nothing-before c s = rw no
+
+  inner-nothing : (i : Inner) → bothInner i Inner.Nothing ≡ i
+  inner-nothing Inner.Nothing = refl
+  inner-nothing (Inner.Nodes r first last) = refl
+
+  pub nothing-after : (s : Seen) → bothSeen s (unopenedOf x (s .opened) at) ≡ s
+  nothing-after s = rw no (seen-same (both-empty (s .outer)) (inner-nothing (s .inner)) refl)

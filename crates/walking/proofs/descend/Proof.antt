@@ -1,0 +1,132 @@
+-- `descend` takes one half after the other. Wherever it has come to, a descent from there is a descent from the start
+-- (`CameTo`); the hours of the node it is at fall by half in each turn. Assumes nothing.
+use mathlib.Core.Path.{sym, _∙_}
+use Prim.Native.Nat.{_*_, _^_, _<_}
+use native.Mathlib.Omega.{arith}
+use borrow.Author.Needs.{needs}
+use Rattle.signed.proofs.Widths.{reads-back}
+use Rattle.node.specs.declared.Halves.{Halves}
+use Rattle.walking.specs.Walking.{SteppedDown}
+use Rattle.walking.proofs.Lending.{small-number}
+use Rattle.walking.proofs.Descending as laws
+use Rattle.walking.proofs.Descending.{CameTo}
+use Rattle.walking.proofs.descend.Statement.{statement}
+use Rattle.walking.proofs.descend.Tie as tie
+
+abbrev Inv-loop : tie.InvT-loop
+Inv-loop n coefficients codes towards at₀ levels₀ at levels = CameTo n coefficients codes towards at₀ at levels
+
+abbrev μ-loop : tie.MeasureT-loop
+μ-loop n coefficients codes towards at₀ levels₀ at levels = at .hours
+
+-- The number of a node of two hours or more can be doubled.
+small : (c : tie.Then1 Inv-loop μ-loop) → 2 * c .before .before .loop .at .id .0 < 2 ^ 63
+small c =
+    let here = c .before .before in
+    omega (arith, small-number _ _ _ (here .loop .inv .below) (c .if1 .taken), here .before .before .good)
+
+-- It is sound, and these are its halves.
+halves : (c : tie.After-halves Inv-loop μ-loop) →
+    (let here = c .before .before .before .before .before .before .before in
+    let a = here .before .before .args in
+    let parts = c .halves .given .0 in
+    SteppedDown (a .n) (a .coefficients .now) (a .codes .now) (here .loop .at) (Halves.Sound (parts .0) (parts .1 .0)))
+halves c = rw (c .halves .given .1) at (c .before .before .step .ensures)
+
+loop-holds : tie.Need-loop-holds Inv-loop μ-loop
+loop-holds c = laws.at-start _ _ _ _ _ (c .before .pre)
+
+step-requires : tie.Need-step-requires Inv-loop μ-loop
+step-requires c κs =
+    let c2 = c .before .before in
+    (c2 .if1 .taken, c2 .before .before .loop .inv .below)
+
+enum-known-halves : tie.Need-enum-known-halves Inv-loop μ-loop
+enum-known-halves c = search needs
+
+enum-told : tie.Need-enum-told Inv-loop μ-loop
+enum-told c = search needs
+
+returns : tie.Need-returns Inv-loop μ-loop
+returns c =
+    let c2 = c .before .before in
+    let then = c2 .before .before .before in
+    let here = then .before .before in
+    let step = rw (c .enum-told .given .1) at (c2 .step .ensures) in
+    here .loop .inv .rest _ (laws.node-unsound _ _ _ _ _ _ (then .if1 .taken) step)
+
+add-levels : tie.Need-add-levels Inv-loop μ-loop
+add-levels c =
+    let here = c .before .before .before .before .before .before .before .before in
+    omega (arith, here .loop .inv .room, here .before .before .pre .codes, here .before .before .good)
+
+takes-left-requires : tie.Need-takes-left-requires Inv-loop μ-loop
+takes-left-requires c κs = search needs
+
+left-half-requires : tie.Need-left-half-requires Inv-loop μ-loop
+left-half-requires c κs = small (c .before .before .before .before .before .before .before .before)
+
+loop-less : tie.Need-loop-less Inv-loop μ-loop
+loop-less c =
+    let then = c .before .before .before .before .before .before .before .before .before in
+    rw (c .left-half .ensures) (omega (arith, then .if1 .taken))
+
+loop-again : tie.Need-loop-again Inv-loop μ-loop
+loop-again c =
+    let c4 = c .before .before .before .before in
+    let then = c4 .before .before .before .before .before in
+    let takes = sym (c .before .before .takes-left .ensures) ∙ c .before .if2 .taken in
+    rw (c .left-half .ensures)
+    (laws.came-left _ _ _ _ _ _ _ (then .before .before .loop .inv) (then .if1 .taken) _ _ (halves c4) takes)
+
+right-half-requires : tie.Need-right-half-requires Inv-loop μ-loop
+right-half-requires c κs =
+    let then = c .before .before .before .before .before .before .before .before in
+    let here = then .before .before in
+    (small then, omega (arith, here .loop .inv .below .codes, here .before .before .good))
+
+loop-less-2 : tie.Need-loop-less-2 Inv-loop μ-loop
+loop-less-2 c =
+    let then = c .before .before .before .before .before .before .before .before .before in
+    rw (c .right-half .ensures) (omega (arith, then .if1 .taken))
+
+loop-again-2 : tie.Need-loop-again-2 Inv-loop μ-loop
+loop-again-2 c =
+    let c4 = c .before .before .before .before in
+    let then = c4 .before .before .before .before .before in
+    let takes = sym (c .before .before .takes-left .ensures) ∙ c .before .if2 .left in
+    rw (c .right-half .ensures)
+    (laws.came-right _ _ _ _ _ _ _ (then .before .before .loop .inv) (then .if1 .taken) _ _ (halves c4) takes)
+
+low-of-requires : tie.Need-low-of-requires Inv-loop μ-loop
+low-of-requires c κs = search needs
+
+returns-2 : tie.Need-returns-2 Inv-loop μ-loop
+returns-2 c =
+    let c2 = c .before .before in
+    let here = c2 .before .before in
+    let l = c .low-of in
+    rw (reads-back (l .result) (l .ok), l .ensures)
+    (here .loop .inv .rest _ (laws.hour-came _ _ _ _ _ _ (here .loop .inv .below) (c2 .if1 .left)))
+
+pub descend-spec : {M : Type 1} → statement M
+descend-spec =
+    tie.close
+    (tie.spec
+    Inv-loop
+    μ-loop
+    loop-holds
+    step-requires
+    enum-known-halves
+    enum-told
+    returns
+    add-levels
+    takes-left-requires
+    left-half-requires
+    loop-less
+    loop-again
+    right-half-requires
+    loop-less-2
+    loop-again-2
+    low-of-requires
+    returns-2)

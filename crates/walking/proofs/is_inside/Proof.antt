@@ -1,0 +1,17 @@
+-- `is_inside` makes the two tests of the definition. Assumes nothing.
+use borrow.Author.Tests.{le-leb, lt-leb}
+use borrow.Author.Needs.{needs}
+use Rattle.walking.proofs.is_inside.Statement.{statement}
+use Rattle.walking.proofs.is_inside.Tie as tie
+
+add-end : tie.Need-add-end
+add-end c = search needs
+
+returns : tie.Need-returns
+returns c = rw (le-leb _ _ (c .before .if1 .taken))
+
+returns-2 : tie.Need-returns-2
+returns-2 c = rw (lt-leb _ _ (c .if1 .left))
+
+pub is-inside-spec : {M : Type 1} → statement M
+is-inside-spec = tie.close (tie.spec add-end returns returns-2)

@@ -1,0 +1,164 @@
+-- `narrow` opens one node after the other. Wherever it has come to, a walk from there is a walk from the start
+-- (`CameTo`); the hours of the node it is at fall by half in each turn. Assumes nothing.
+use mathlib.Core.Path.{_≡_, sym, _∙_}
+use mathlib.Core.Bool.{true}
+use Prim.Native.Nat.{_+_, _*_, _^_, _≤_, _<_}
+use native.Mathlib.Omega.{arith}
+use borrow.Author.Needs.{needs}
+use Rattle.node.specs.declared.Halves.{Halves}
+use Rattle.walking.specs.Nodes.{openedOf}
+use Rattle.walking.specs.Walking.{SteppedDown}
+use Rattle.walking.proofs.Lending.{small-number}
+use Rattle.walking.proofs.Narrowing as laws
+use Rattle.walking.proofs.Narrowing.{CameTo}
+use Rattle.walking.proofs.narrow.Statement.{statement}
+use Rattle.walking.proofs.narrow.Tie as tie
+
+abbrev Inv-loop : tie.InvT-loop
+Inv-loop n coefficients codes x stop seen at₀ opened₀ at opened =
+    CameTo n coefficients codes x stop seen at₀ at opened
+
+abbrev μ-loop : tie.MeasureT-loop
+μ-loop n coefficients codes x stop seen at₀ opened₀ at opened = at .hours
+
+-- The node that the walk is at ends at an hour that is counted without overflow.
+ends-early : (c : tie.At-loop Inv-loop μ-loop) → c .loop .at .from .0 + c .loop .at .hours < 2 ^ 64
+ends-early c = omega (arith, c .loop .inv .below .codes, c .before .before .good)
+
+-- It is opened, so it covers two hours or more, and its number can be doubled.
+opens : (c : tie.Then1 Inv-loop μ-loop) →
+    (let start = c .before .before .before .before in
+    openedOf (start .args .x) (start .args .stop) (c .before .before .loop .at) ≡ true)
+opens c = sym (c .before .is-opened .ensures) ∙ c .if1 .taken
+
+two-hours : (c : tie.Then1 Inv-loop μ-loop) → 2 ≤ c .before .before .loop .at .hours
+two-hours c =
+    let start = c .before .before .before .before in
+    laws.opened-hours (start .args .x) (start .args .stop) (c .before .before .loop .at) (start .pre .1 .1) (opens c)
+
+small : (c : tie.Then1 Inv-loop μ-loop) → 2 * c .before .before .loop .at .id .0 < 2 ^ 63
+small c =
+    let here = c .before .before in
+    omega (arith, small-number _ _ _ (here .loop .inv .below) (two-hours c), here .before .before .good)
+
+-- It is sound, and these are its halves.
+abbrev opened-at : tie.After-right-half Inv-loop μ-loop → tie.Then1 Inv-loop μ-loop
+opened-at c = c .before .before .before .before .before .before .before .before
+
+halves : (c : tie.After-right-half Inv-loop μ-loop) →
+    (let here = opened-at c .before .before in
+    let a = here .before .before .args in
+    let parts = c .before .before .before .halves .given .0 in
+    SteppedDown (a .n) (a .coefficients .now) (a .codes .now) (here .loop .at) (Halves.Sound (parts .0) (parts .1 .0)))
+halves c =
+    let c3 = c .before .before .before in
+    rw (c3 .halves .given .1) at (c3 .before .before .step .ensures)
+
+loop-holds : tie.Need-loop-holds Inv-loop μ-loop
+loop-holds c = laws.at-start _ _ _ _ _ _ _ (c .before .pre .0) (c .before .pre .1 .0)
+
+is-opened-requires : tie.Need-is-opened-requires Inv-loop μ-loop
+is-opened-requires c κs = ends-early c
+
+step-requires : tie.Need-step-requires Inv-loop μ-loop
+step-requires c κs =
+    let c2 = c .before .before in
+    (two-hours c2, c2 .before .before .loop .inv .below)
+
+enum-known-halves : tie.Need-enum-known-halves Inv-loop μ-loop
+enum-known-halves c = search needs
+
+enum-told : tie.Need-enum-told Inv-loop μ-loop
+enum-told c = search needs
+
+returns : tie.Need-returns Inv-loop μ-loop
+returns c =
+    let c2 = c .before .before in
+    let c5 = c2 .before .before .before in
+    let step = rw (c .enum-told .given .1) at (c2 .step .ensures) in
+    laws.unsound _ _ _ _ _ _ _ _ _ (c5 .before .before .loop .inv) (opens c5) (two-hours c5) step
+
+left-half-requires : tie.Need-left-half-requires Inv-loop μ-loop
+left-half-requires c κs = small (c .before .before .before .before .before .before)
+
+right-half-requires : tie.Need-right-half-requires Inv-loop μ-loop
+right-half-requires c κs =
+    let c7 = c .before .before .before .before .before .before .before in
+    (small c7, ends-early (c7 .before .before))
+
+add-opened : tie.Need-add-opened Inv-loop μ-loop
+add-opened c =
+    let here = c .before .before .before .before .before .before .before .before .before .before in
+    omega (arith, here .loop .inv .room, here .loop .inv .below .some, here .before .before .good)
+
+touches-requires : tie.Need-touches-requires Inv-loop μ-loop
+touches-requires c κs = rw (c .right-half .ensures) (omega (arith, ends-early (opened-at c .before .before)))
+
+touches-requires-2 : tie.Need-touches-requires-2 Inv-loop μ-loop
+touches-requires-2 c κs =
+    let c2 = c .before .before in
+    rw (c2 .before .left-half .ensures) (omega (arith, ends-early (opened-at c2 .before .before)))
+
+returns-2 : tie.Need-returns-2 Inv-loop μ-loop
+returns-2 c =
+    let c4 = c .before .before .before .before in
+    let then = opened-at c4 in
+    rw (c4 .right-half .ensures, c4 .before .left-half .ensures)
+    (laws.splits _ _ _ _ _ _ _ _ _ (then .before .before .loop .inv) (opens then) (two-hours then) _ _ (halves c4))
+
+loop-less : tie.Need-loop-less Inv-loop μ-loop
+loop-less c =
+    let c4 = c .before .before .before .before in
+    rw (c4 .right-half .ensures) (omega (arith, two-hours (opened-at c4)))
+
+loop-again : tie.Need-loop-again Inv-loop μ-loop
+loop-again c =
+    let c4 = c .before .before .before .before in
+    let then = opened-at c4 in
+    let apart = sym (c .before .touches2 .ensures) ∙ c .if3 .left in
+    rw (c4 .right-half .ensures)
+    (laws.goes-right _ _ _ _ _ _ _ _ _ (then .before .before .loop .inv) (opens then) (two-hours then) _ _ (halves c4)
+    (rw (c4 .before .left-half .ensures) at apart))
+
+loop-less-2 : tie.Need-loop-less-2 Inv-loop μ-loop
+loop-less-2 c =
+    let c2 = c .before .before in
+    rw (c2 .before .left-half .ensures) (omega (arith, two-hours (opened-at c2)))
+
+loop-again-2 : tie.Need-loop-again-2 Inv-loop μ-loop
+loop-again-2 c =
+    let c2 = c .before .before in
+    let then = opened-at c2 in
+    let apart = sym (c .before .touches .ensures) ∙ c .if2 .left in
+    rw (c2 .before .left-half .ensures)
+    (laws.goes-left _ _ _ _ _ _ _ _ _ (then .before .before .loop .inv) (opens then) (two-hours then) _ _ (halves c2)
+    (rw (c2 .right-half .ensures) at apart))
+
+returns-3 : tie.Need-returns-3 Inv-loop μ-loop
+returns-3 c =
+    let closed = sym (c .before .is-opened .ensures) ∙ c .if1 .left in
+    laws.ends _ _ _ _ _ _ _ _ _ (c .before .before .loop .inv) closed
+
+pub narrow-spec : {M : Type 1} → statement M
+narrow-spec =
+    tie.close
+    (tie.spec
+    Inv-loop
+    μ-loop
+    loop-holds
+    is-opened-requires
+    step-requires
+    enum-known-halves
+    enum-told
+    returns
+    left-half-requires
+    right-half-requires
+    add-opened
+    touches-requires
+    touches-requires-2
+    returns-2
+    loop-less
+    loop-again
+    loop-less-2
+    loop-again-2
+    returns-3)

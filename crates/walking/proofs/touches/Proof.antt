@@ -1,0 +1,29 @@
+-- `touches` goes by the cases of the range and makes the two tests of the definition. Assumes nothing.
+use borrow.Author.Tests.{lt-ltb, le-ltb}
+use borrow.Author.Needs.{needs}
+use Rattle.walking.proofs.touches.Statement.{statement}
+use Rattle.walking.proofs.touches.Tie as tie
+
+add-end : tie.Need-add-end
+add-end c = search needs
+
+enum-told : tie.Need-enum-told
+enum-told c = search needs
+
+enum-told-2 : tie.Need-enum-told-2
+enum-told-2 c = search needs
+
+returns : tie.Need-returns
+returns c = search needs
+
+returns-2 : tie.Need-returns-2
+returns-2 c =
+    let c2 = c .before .before in
+    let c4 = c2 .before .before in
+    rw (c4 .enum-told2 .given .1, lt-ltb _ _ (c2 .if1 .taken))
+
+returns-3 : tie.Need-returns-3
+returns-3 c = rw (c .before .before .enum-told2 .given .1, le-ltb _ _ (c .if1 .left))
+
+pub touches-spec : {M : Type 1} → statement M
+touches-spec = tie.close (tie.spec add-end enum-told enum-told-2 returns returns-2 returns-3)

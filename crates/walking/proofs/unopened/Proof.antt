@@ -1,0 +1,29 @@
+-- `unopened` goes by whether the node touches the column and lies inside it. Assumes nothing.
+use mathlib.Core.Path.{sym, _∙_}
+use borrow.Author.Needs.{needs}
+use Rattle.walking.proofs.unopened.Statement.{statement}
+use Rattle.walking.proofs.unopened.Tie as tie
+
+touches-requires : tie.Need-touches-requires
+touches-requires c κs = search needs
+
+is-inside-requires : tie.Need-is-inside-requires
+is-inside-requires c κs = search needs
+
+returns : tie.Need-returns
+returns c =
+    let c2 = c .before .before in
+    let in-column = sym (c .before .is-inside .ensures) ∙ c .if2 .taken in
+    rw (sym (c2 .before .touches .ensures) ∙ c2 .if1 .taken, in-column)
+
+returns-2 : tie.Need-returns-2
+returns-2 c =
+    let c2 = c .before .before in
+    let partly = sym (c .before .is-inside .ensures) ∙ c .if2 .left in
+    rw (sym (c2 .before .touches .ensures) ∙ c2 .if1 .taken, partly)
+
+returns-3 : tie.Need-returns-3
+returns-3 c = rw (sym (c .before .touches .ensures) ∙ c .if1 .left)
+
+pub unopened-spec : {M : Type 1} → statement M
+unopened-spec = tie.close (tie.spec touches-requires is-inside-requires returns returns-2 returns-3)

@@ -1,0 +1,66 @@
+-- Nodes as the code carries them, and what it tests of them. Cited by the contracts of this crate. Assumes nothing.
+--
+--   reachedOf l t v          node v of a table t of l levels, as the code carries it
+--   At l t v at              `at` is that node
+--   Below cs ks at           it covers an hour, its range is one of readings, and all below it is lent
+--   leftReached at r         its left half, which has the range r; rightReached at r, its right half
+--   touchesOf x at           it has a reading and shares an hour with the column x
+--   insideOf x at            it lies wholly inside the column
+--   openedOf x stop at       it is opened, where nodes of the depth cover `stop` hours
+use mathlib.Core.Path.{_≡_}
+use mathlib.Core.Bool.{Bool, not, _&&_}
+use mathlib.Core.List.{List}
+use Prim.Native.Nat.{ℕ, _+_, _*_, _/_, _≤_}
+use lib.Dec.{leb, ltb}
+use lib.IntN.{ℤ}
+use lib.ListN.{length}
+use Rattle.words.specs.declared.Column.{Column}
+use Rattle.words.specs.declared.Range.{Range}
+use Rattle.om3.specs.Series.{hour}
+use Rattle.om3.specs.Nodes.{Node, number, width, firstHour, Located}
+use Rattle.om3.specs.Ranges.{isEmpty, Readings}
+use Rattle.om3.specs.Table.{Table}
+use Rattle.om3.specs.Down.{reached}
+use Rattle.walking.specs.declared.Reached.{Reached}
+
+-- Node v as the code carries it: its number, its first hour, how many hours it covers, and its range.
+abbrev pub reachedOf : ℕ → Table → Node → Reached
+reachedOf l t v = record { id = number v; from = firstHour l v; hours = width l v; range = reached l t v }
+
+-- The code is at node v of the table t.
+pub record At (l : ℕ) (t : Table) (v : Node) (at : Reached) : Type 0 where
+  pub located : Located l v (at .id .0) (at .from .0) (at .hours)
+  pub range : at .range ≡ reached l t v
+
+-- The node covers an hour and its range is one of readings; its details and codes, and those below it, are lent.
+pub record Below (cs : List ℤ) (ks : List ℕ) (at : Reached) : Type 0 where
+  pub some : 1 ≤ at .hours
+  pub readings : Readings (at .range)
+  pub details : (at .id .0 + 1) * (at .hours / 2) ≤ length cs
+  pub codes : at .from .0 + at .hours ≤ 2 * length ks
+
+-- The left half has twice the number and the first half of the hours; the right half one more, and the second half.
+abbrev pub leftReached : Reached → Range → Reached
+leftReached at r = record { id = record { 0 = 2 * at .id .0 }; from = at .from; hours = at .hours / 2; range = r }
+
+abbrev pub rightReached : Reached → Range → Reached
+rightReached at r = record {
+  id = record { 0 = 2 * at .id .0 + 1 };
+  from = hour (at .from .0 + at .hours / 2);
+  hours = at .hours / 2;
+  range = r;
+}
+
+-- A node with a reading touches a column that has an hour if each begins before the other ends. [columns 6]
+abbrev pub touchesOf : Column → Reached → Bool
+touchesOf x at =
+    not (isEmpty (at .range)) && (ltb (x .from .0) (at .from .0 + at .hours) && ltb (at .from .0) (x .upto .0))
+
+-- It lies wholly inside if it does not begin before the column, nor end after it. [columns 6]
+abbrev pub insideOf : Column → Reached → Bool
+insideOf x at = leb (x .from .0) (at .from .0) && leb (at .from .0 + at .hours) (x .upto .0)
+
+-- It is opened if it touches the column, is not wholly inside, and covers more hours than nodes of the depth do.
+-- [columns 6, 7]
+abbrev pub openedOf : Column → ℕ → Reached → Bool
+openedOf x stop at = touchesOf x at && (not (insideOf x at) && ltb stop (at .hours))

@@ -1,0 +1,82 @@
+-- What a step down and the walk over opened nodes promise. Cited by the contracts of this crate and of the columns.
+-- Assumes nothing.
+--
+--   halvesAt l n t v         the halves of node v if it is sound; SteppedDown, the contract of a step
+--   walkCheck r              what a walk says, as a check
+--   Asked l d x stop         the walk is for depth d, whose nodes cover `stop` hours, and a column x that has an hour
+--   Walks                    what a walk says of node v and the nodes below it
+--   InnerBelow cs ks i       the first and the last node of an inner range are lent, with all below them
+--   WalkedFrom               the contract of the walk below a node; TableWalked, of that from the root values
+use mathlib.Core.Path.{_≡_}
+use mathlib.Core.Bool.{true, cond}
+use mathlib.Core.List.{List}
+use Prim.Native.Nat.{ℕ, suc, _+_, _-_, _^_, _≤_, _<_}
+use lib.IntN.{ℤ}
+use Rattle.words.specs.declared.Column.{Column}
+use Rattle.words.specs.declared.Range.{Range}
+use Rattle.words.specs.declared.Refusal.the-variants as refusal
+use Rattle.om3.specs.Lists.{keep}
+use Rattle.om3.specs.Series.{levels, P}
+use Rattle.om3.specs.Nodes.{Node, left, right}
+use Rattle.om3.specs.Ranges.{Readings}
+use Rattle.om3.specs.Table.{Table, lent}
+use Rattle.om3.specs.Down.{reached}
+use Rattle.om3.specs.Checks.{Check, passes, refuses}
+use Rattle.om3.specs.Sound.{soundNode, nodesBelow, examine}
+use Rattle.om3.specs.Stopped.{opened, openedNodes, visited}
+use Rattle.node.specs.declared.Halves.{Halves}
+use Rattle.turning.specs.Turning.{examineNodes}
+use Rattle.walking.specs.Nodes.{At, Below}
+use Rattle.walking.specs.Seen.{seenOf, tableSeen}
+use Rattle.walking.specs.declared.Reached.{Reached}
+use Rattle.walking.specs.declared.Inner.{Inner}
+use Rattle.walking.specs.declared.Seen.{Seen}
+use Rattle.walking.specs.declared.Walked.{Walked}
+
+-- A sound node's halves have the ranges reached there.
+abbrev pub halvesAt : (l n : ℕ) → Table → Node → Halves
+halvesAt l n t v =
+    cond (soundNode l n t v) (Halves.Sound (reached l t (left v)) (reached l t (right v))) Halves.Unsound
+
+-- A step down answers them, ranges of readings, or that the node is unsound.
+pub record SteppedDown (n : ℕ) (cs : List ℤ) (ks : List ℕ) (at : Reached) (r : Halves) : Type 0 where
+  pub halves : (l : ℕ) (v : Node) → At l (lent cs ks) v at → r ≡ halvesAt l n (lent cs ks) v
+  pub readings : (a b : Range) → r ≡ Halves.Sound a b → Readings a × Readings b
+
+-- A walk is through exactly if the nodes that it opened are sound. [refusals 4]
+abbrev pub walkCheck : Walked → Check
+walkCheck (Walked.Unsound i) = refuses (refusal.Unsound i)
+walkCheck (Walked.Through s) = passes
+
+-- Nodes of level d cover 2^(l−d) hours; only nodes that cover more are of a level below d. [columns 7]
+pub record Asked (l d : ℕ) (x : Column) (stop : ℕ) : Type 0 where
+  pub deep : d ≤ l
+  pub stops : stop ≡ 2 ^ (l - d)
+  pub some : x .from .0 < x .upto .0
+
+-- The opened nodes are examined in their order; where all are sound, this is what was seen. [columns 10, 11, 16]
+pub record Walks (l n : ℕ) (t : Table) (x : Column) (d c : ℕ) (v : Node) (r : Walked) : Type 0 where
+  pub examined : walkCheck r ≡ examineNodes l n t (keep (opened l t x d) (nodesBelow (suc (l - v .level)) v))
+  pub saw : (s : Seen) → r ≡ Walked.Through s → s ≡ seenOf l t x d c v
+
+-- The first and the last inner node are lent, with all below them.
+abbrev pub InnerBelow : List ℤ → List ℕ → Inner → Type 0
+InnerBelow cs ks Inner.Nothing = Unit
+InnerBelow cs ks (Inner.Nodes range first last) = Below cs ks first × Below cs ks last
+
+-- Below a visited node; no more nodes are opened than it covers hours, less one.
+pub record WalkedFrom (n : ℕ) (cs : List ℤ) (ks : List ℕ) (x : Column) (stop c : ℕ) (at : Reached) (r : Walked)
+    : Type 0 where
+  pub few : (s : Seen) → r ≡ Walked.Through s → s .opened + 1 ≤ c + at .hours
+  pub below : (s : Seen) → r ≡ Walked.Through s → InnerBelow cs ks (s .inner)
+  pub walks : (l d : ℕ) (v : Node) → Asked l d x stop → At l (lent cs ks) v at → visited l (lent cs ks) x d v ≡ true
+      → Walks l n (lent cs ks) x d c v r
+
+-- From the root values: node 0 is examined first, and node 1 is visited. [columns 8, 16]
+pub record TableWalked (n : ℕ) (cs : List ℤ) (ks : List ℕ) (x : Column) (stop : ℕ) (r : Walked) : Type 0 where
+  pub few : (s : Seen) → r ≡ Walked.Through s → s .opened < P n
+  pub below : (s : Seen) → r ≡ Walked.Through s → InnerBelow cs ks (s .inner)
+  pub examined : (d : ℕ) → Asked (levels n) d x stop
+      → walkCheck r ≡ examine (levels n) n (lent cs ks) (openedNodes (levels n) (lent cs ks) x d)
+  pub saw : (d : ℕ) → Asked (levels n) d x stop → (s : Seen) → r ≡ Walked.Through s
+      → s ≡ tableSeen (levels n) (lent cs ks) x d
