@@ -1,0 +1,162 @@
+-- The checks of the column calls, in the parts in which the code makes them. Assumes nothing.
+use mathlib.Core.Path.{_≡_, refl, ap, _∙_}
+use mathlib.Core.Bool.{Bool, true, false, not, _&&_, _||_}
+use mathlib.Core.List.{List, [], _∷_, _++_}
+use Prim.Native.Nat.{ℕ, _+_, _*_, _/_, _≤_, _<_}
+use native.Mathlib.Omega.{arith}
+use lib.Dec.{leb, ltb, eqb}
+use lib.IntN.{ℤ}
+use lib.ListN.{length}
+use borrow.Author.Tests.{lt-ltb, le-ltb, le-leb, lt-leb, leb-true, leb-false, ltb-true, ltb-false, not-false}
+use Rattle.words.specs.Constants.{largestHours, mostColumns, dayHours}
+use Rattle.words.specs.declared.Refusal.{Refusal}
+use Rattle.words.specs.declared.Refusal.the-variants.{BadHours, ShortBuffer, BadWindow, BadColumn}
+use Rattle.words.specs.declared.Column.{Column}
+use Rattle.words.specs.declared.Edges.{Edges}
+use Rattle.words.specs.declared.Taking.{Taking}
+use Rattle.om3.specs.Series.{badHours, P}
+use Rattle.om3.specs.Table.{Table, lent}
+use Rattle.om3.specs.Checks.{Check, passes, refuses, andThen, inOrder}
+use Rattle.om3.specs.Calls.{takingBy}
+use Rattle.om3.specs.Refusals.{checkHours, checkRoom, tableShort, checkWindow, checkDay, checkColumn, edgesChecks}
+use Rattle.om3.specs.Refusals.{columnChecks, dayChecks}
+use Rattle.om3.specs.Columns.{column, edgesBy}
+use Rattle.om3.proofs.Tests.{and-left, and-right, neither}
+use Rattle.om3.proofs.Examined.{then-passes, in-order-append, first-absent}
+use Rattle.om3.proofs.Making.{good-some}
+use Rattle.om3.proofs.Demand2.{coefficients-there, codes-there}
+use Rattle.om3.proofs.Taken.{taken-passes, refused-refuses}
+use Rattle.turning.specs.Turning.{TableLent}
+use Rattle.columns.specs.Drawing.{Edged, lentChecks, windowChecks}
+
+-- Checks 1 and 3.
+module _ (n : ℕ) (cs : List ℤ) (ks : List ℕ) where
+  abbrev T : Table
+  T = lent cs ks
+
+  pub bad-hours : badHours n ≡ true → Taking.Refused BadHours ≡ takingBy (lentChecks n T)
+  unfolding inOrder
+  bad-hours b = rw b
+
+  module _ (good : badHours n ≡ false) (p : ℕ) (e : p ≡ P n) where
+    pub few-coefficients : length cs < p → Taking.Refused ShortBuffer ≡ takingBy (lentChecks n T)
+    unfolding inOrder
+    few-coefficients h = rw (good, lt-ltb (length cs) (P n) (rw e at h))
+
+    pub few-codes : p ≤ length cs → length ks < p / 2 → Taking.Refused ShortBuffer ≡ takingBy (lentChecks n T)
+    unfolding inOrder
+    few-codes w h = rw (good, le-ltb (length cs) (P n) (rw e at w), lt-ltb (length ks) (P n / 2) (rw e at h))
+
+    pub enough : p ≤ length cs → p / 2 ≤ length ks → Taking.Taken ≡ takingBy (lentChecks n T)
+    unfolding inOrder
+    enough w h = rw (good, le-ltb (length cs) (P n) (rw e at w), le-ltb (length ks) (P n / 2) (rw e at h))
+
+  pub lent-passes : Taking.Taken ≡ takingBy (lentChecks n T) → lentChecks n T ≡ passes
+  lent-passes taken = taken-passes (lentChecks n T) taken
+
+  -- They have passed: the table is lent.
+  pub table-lent : lentChecks n T ≡ passes → TableLent n cs ks
+  table-lent lends =
+      let one = first-absent (badHours n) BadHours _ lends in
+      let room = first-absent (tableShort n T) ShortBuffer _ (one .1) .0 in
+      record {
+        most = good-some n (one .0) .1;
+        coefficients = coefficients-there n T room;
+        codes = codes-there n T room;
+      }
+
+-- Checks 5 and 6.
+module _ (n a b w k : ℕ) where
+  abbrev outside : Bool
+  outside = not (ltb a b && leb b n)
+
+  abbrev none : Bool
+  none = eqb w 0 || ltb mostColumns w || leb w k
+
+  abbrev told : Edges
+  told = edgesBy (windowChecks n a b w k) (column a b w k)
+
+  pub bad-window : outside ≡ true → Edges.Refused BadWindow ≡ told
+  unfolding inOrder
+  bad-window e = rw e
+
+  pub bad-column : outside ≡ false → none ≡ true → Edges.Refused BadColumn ≡ told
+  unfolding inOrder
+  bad-column e f = rw (e, f)
+
+  module _ (e : outside ≡ false) (f : none ≡ false) where
+    window : (ltb a b && leb b n) ≡ true
+    window = not-false (ltb a b && leb b n) e
+
+    pub edged : n ≤ largestHours → Edged a b w k × Edged a b w (k + 1)
+    edged most =
+        let p : a < b = ltb-true a b (and-left (ltb a b) (leb b n) window) in
+        let q : b ≤ n = leb-true b n (and-right (ltb a b) (leb b n) window) in
+        let g = neither (eqb w 0 || ltb mostColumns w) (leb w k) f in
+        let u : w ≤ mostColumns = ltb-false mostColumns w (neither (eqb w 0) (ltb mostColumns w) (g .0) .1) in
+        let v : k < w = leb-false w k (g .1) in (
+          record { ordered = omega arith; hours = omega arith; some = omega arith; most = u; among = omega arith },
+          record { ordered = omega arith; hours = omega arith; some = omega arith; most = u; among = omega arith },
+        )
+
+    pub window-hours : (x : Column) → x ≡ column a b w k → Edges.Hours x ≡ told
+    unfolding inOrder
+    window-hours x g = rw (e, f, g)
+
+-- What the answer of these checks says of them.
+edges-refused : (c : Check) (x : Column) (why : Refusal) → Edges.Refused why ≡ edgesBy c x → c ≡ refuses why
+edges-refused passes x why e = cc
+edges-refused (refuses r) x why e = cc
+
+pub edges-passed : (c : Check) (x y : Column) → Edges.Hours y ≡ edgesBy c x → (c ≡ passes) × (y ≡ x)
+edges-passed passes x y e = (refl, cc)
+edges-passed (refuses r) x y e = let z : _≡_ {A = ℕ} 0 1 = cc in absurd (omega arith)
+
+-- The checks of a whole call, in these parts: the first that refuses decides.
+module _ (n : ℕ) (t : Table) (a b w k : ℕ) (seven : List Check) (four : Check) where
+  abbrev whole : Check
+  whole = columnChecks n (checkRoom (tableShort n t)) a b w k seven four
+
+  parted : whole ≡ andThen (lentChecks n t) (andThen (windowChecks n a b w k) (inOrder (seven ++ four ∷ [])))
+  parted =
+      in-order-append (checkHours n ∷ checkRoom (tableShort n t) ∷ []) _
+      ∙ ap (andThen (lentChecks n t)) (in-order-append (checkWindow n a b ∷ checkColumn w k ∷ []) _)
+
+  pub lent-refused : (why : Refusal) → Taking.Refused why ≡ takingBy (lentChecks n t) → whole ≡ refuses why
+  lent-refused why e = parted ∙ rw (refused-refuses (lentChecks n t) why e)
+
+  module _ (lends : lentChecks n t ≡ passes) where
+    pub window-refused : (why : Refusal) → Edges.Refused why ≡ edgesBy (windowChecks n a b w k) (column a b w k)
+        → whole ≡ refuses why
+    window-refused why e = parted ∙ rw (lends, edges-refused (windowChecks n a b w k) (column a b w k) why e)
+
+    pub window-passed : windowChecks n a b w k ≡ passes → whole ≡ inOrder (seven ++ four ∷ [])
+    window-passed e = parted ∙ rw (lends, e)
+
+-- The edges alone have no check 3.
+pub edges-hours : (n a b w k : ℕ) → badHours n ≡ true → edgesChecks n a b w k ≡ refuses BadHours
+unfolding inOrder
+edges-hours n a b w k bad = rw bad
+
+pub edges-parted : (n a b w k : ℕ) → badHours n ≡ false → edgesChecks n a b w k ≡ windowChecks n a b w k
+unfolding inOrder
+edges-parted n a b w k good = rw good
+
+-- The day's checks.
+module _ (n : ℕ) (t : Table) (d : ℕ) (four : Check) where
+  day-parted : dayChecks n t d four ≡ andThen (lentChecks n t) (andThen (checkDay n d) four)
+  unfolding inOrder
+  day-parted =
+      in-order-append (checkHours n ∷ checkRoom (tableShort n t) ∷ []) (checkDay n d ∷ four ∷ [])
+      ∙ rw (then-passes four)
+
+  pub day-lent-refused : (why : Refusal) → Taking.Refused why ≡ takingBy (lentChecks n t)
+      → dayChecks n t d four ≡ refuses why
+  day-lent-refused why e = day-parted ∙ rw (refused-refuses (lentChecks n t) why e)
+
+  module _ (lends : lentChecks n t ≡ passes) where
+    pub day-late : n ≤ dayHours * d → dayChecks n t d four ≡ refuses BadWindow
+    day-late h = day-parted ∙ rw (lends, le-leb n (dayHours * d) h)
+
+    pub day-there : dayHours * d < n → dayChecks n t d four ≡ four
+    day-there h = day-parted ∙ rw (lends, lt-leb n (dayHours * d) h)

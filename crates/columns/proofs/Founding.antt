@@ -1,0 +1,70 @@
+-- The descents from the first and from the last inner node, for each of their answers. Assumes nothing.
+use mathlib.Core.Path.{_≡_, refl, sym}
+use mathlib.Core.List.{List}
+use Prim.Native.Nat.{ℕ, _+_, _-_}
+use native.Mathlib.Omega.{arith}
+use lib.IntN.{ℤ}
+use Rattle.words.specs.Said.{lowOf, highOf}
+use Rattle.words.specs.declared.Answer.{Answer}
+use Rattle.words.specs.declared.Finished.{Finished}
+use Rattle.words.specs.declared.NodeId.{NodeId}
+use Rattle.words.specs.declared.Range.{Range}
+use Rattle.words.specs.declared.Reading.{Reading}
+use Rattle.words.specs.declared.Refusal.the-variants.{Unsound}
+use Rattle.walking.specs.Descending.{DescendedFrom}
+use Rattle.walking.specs.declared.Descended.{Descended}
+use Rattle.walking.specs.declared.Reached.{Reached}
+use Rattle.walking.specs.declared.Towards.{Towards}
+use Rattle.columns.specs.Drawing.{Answers, FoundFrom}
+use Rattle.columns.proofs.Finishing.{refused-small}
+
+module _ (n : ℕ) (cs : List ℤ) (ks : List ℕ) (range : Range) (first last : Reached) (count : ℕ) where
+  abbrev Found : Finished → Type 0
+  Found r = FoundFrom n cs ks range first last count r
+
+  pub first-unsound : (i : NodeId) → DescendedFrom n cs ks Towards.First 0 first (Descended.Unsound i)
+      → Found (Finished.Refused (Unsound i))
+  first-unsound i F =
+      record { answers = refused-small; answer = λ l u v p q. rw (sym (F .descends l u p .examined)) }
+
+  module _ (reading : Reading) (m : ℕ)
+      (F : DescendedFrom n cs ks Towards.First 0 first (Descended.Came reading m)) where
+    pub last-unsound : (i : NodeId) → DescendedFrom n cs ks Towards.Last 0 last (Descended.Unsound i)
+        → Found (Finished.Refused (Unsound i))
+    last-unsound i L =
+        record {
+          answers = refused-small;
+          answer = λ l u v p q.
+              rw (sym (F .descends l u p .examined), sym (L .descends l v q .examined));
+        }
+
+    module _ (latest : Reading) (k : ℕ)
+        (L : DescendedFrom n cs ks Towards.Last 0 last (Descended.Came latest k)) where
+      abbrev summary : Answer
+      summary = Answer.Found (record { first = reading; last = latest; low = lowOf range; high = highOf range })
+
+      found-small : Answers (Finished.Answered summary (count + m + k))
+      found-small =
+          record {
+            small = λ a c e.
+                let same : summary ≡ a = cc in
+                rw (sym same) (F .small reading m refl, L .small latest k refl);
+          }
+
+      pub both-came : Found (Finished.Answered summary (count + m + k))
+      both-came =
+          record {
+            answers = found-small;
+            answer = λ l u v p q.
+                let one = F .descends l u p in
+                let two = L .descends l v q in
+                let a = one .came reading m refl in
+                let b = two .came latest k refl in
+                let walked : count + m + k ≡ count + (l - u .level) + (l - v .level) = omega (arith, a .1, b .1) in
+                let e = a .0 in
+                let f = b .0 in
+                rw (sym (one .examined), sym (two .examined))
+                (λ i. Finished.Answered
+                (Answer.Found (record { first = e i; last = f i; low = lowOf range; high = highOf range }))
+                (walked i));
+          }

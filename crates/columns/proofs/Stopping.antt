@@ -1,0 +1,79 @@
+-- A column stopped at a depth, for each answer of the walk. Assumes nothing.
+use mathlib.Core.Path.{_≡_, refl, sym}
+use mathlib.Core.List.{List, [], _∷_}
+use Prim.Native.Nat.{ℕ, _+_, _-_, _*_, _^_, _≤_, _<_}
+use lib.IntN.{ℤ}
+use borrow.Author.Tests.{le-leb, lt-leb, lt-ltb, le-ltb}
+use Rattle.words.specs.declared.Column.{Column}
+use Rattle.words.specs.declared.NodeId.{NodeId}
+use Rattle.words.specs.declared.Range.the-variants.{Empty}
+use Rattle.words.specs.declared.Refusal.the-variants.{Unsound, TooDeep}
+use Rattle.words.specs.declared.Stopped.{Stopped}
+use Rattle.om3.specs.Series.{levels}
+use Rattle.om3.specs.Nodes.{Node}
+use Rattle.om3.specs.Table.{Table, lent}
+use Rattle.om3.specs.Checks.{inOrder}
+use Rattle.om3.specs.Stopped.{examineOpened, countAt, rangeOver}
+use Rattle.om3.proofs.Examined.{then-passes}
+use Rattle.walking.specs.Seen.{innerOver}
+use Rattle.walking.specs.Walking.{Asked, TableWalked}
+use Rattle.walking.specs.declared.Seen.{Seen}
+use Rattle.walking.specs.declared.Walked.{Walked}
+use Rattle.columns.specs.Drawing.{innerRange, StoppedOver, StoppedAt}
+
+-- The range of inner nodes is the range over them.
+inner-range : (l : ℕ) (t : Table) (vs : List Node) → innerRange (innerOver l t vs) ≡ rangeOver l t vs
+unfolding rangeOver
+inner-range l t [] = refl
+inner-range l t (v ∷ vs) = refl
+
+module _ (n : ℕ) (cs : List ℤ) (ks : List ℕ) (x : Column) (stop : ℕ) where
+  abbrev l : ℕ
+  l = levels n
+
+  abbrev T : Table
+  T = lent cs ks
+
+  -- No hour: the table is not examined.
+  pub stopped-none : x .upto .0 ≤ x .from .0 → StoppedOver n cs ks x stop (Stopped.Ranges Empty Empty 0)
+  stopped-none h =
+      let none = le-leb (x .upto .0) (x .from .0) h in
+      record { answer = λ d deep stops. rw none (rw none) }
+
+  module _ (some : x .from .0 < x .upto .0) where
+    asked : (d : ℕ) → d ≤ l → stop ≡ 2 ^ (l - d) → Asked l d x stop
+    asked d deep stops = record { deep = deep; stops = stops; some = some }
+
+    pub stopped-unsound : (i : NodeId) → TableWalked n cs ks x stop (Walked.Unsound i)
+        → StoppedOver n cs ks x stop (Stopped.Refused (Unsound i))
+    stopped-unsound i W =
+        record {
+          answer = λ d deep stops.
+              rw (lt-leb (x .upto .0) (x .from .0) some, sym (W .examined d (asked d deep stops)));
+        }
+
+    pub stopped-seen : (s : Seen) → TableWalked n cs ks x stop (Walked.Through s)
+        → StoppedOver n cs ks x stop (Stopped.Ranges (s .outer) (innerRange (s .inner)) (1 + 2 * s .opened))
+    unfolding countAt
+    stopped-seen s W =
+        record {
+          answer = λ d deep stops.
+              let a = asked d deep stops in
+              let hours = lt-leb (x .upto .0) (x .from .0) some in
+              rw (hours, sym (W .examined d a)) (rw (hours, W .saw d a s refl, inner-range l T));
+        }
+
+-- Check 7, and then the column at that depth.
+module _ (n : ℕ) (cs : List ℤ) (ks : List ℕ) (x : Column) (d : ℕ) where
+  pub too-deep : levels n < d → StoppedAt n cs ks x d (Stopped.Refused TooDeep)
+  unfolding inOrder
+  too-deep h = record { answer = rw (lt-ltb (levels n) d h) }
+
+  pub deep-enough : d ≤ levels n → (stop : ℕ) → stop ≡ 2 ^ (levels n - d) → (r : Stopped)
+      → StoppedOver n cs ks x stop r → StoppedAt n cs ks x d r
+  unfolding inOrder
+  deep-enough h stop e r S =
+      record {
+        answer =
+            rw (le-ltb (levels n) d h, then-passes (examineOpened (levels n) (lent cs ks) x n d)) (S .answer d h e);
+      }

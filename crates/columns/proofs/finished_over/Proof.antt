@@ -1,0 +1,94 @@
+-- `finished_over` walks the table, and descends from the first and the last inner node if there are some. Assumes
+-- nothing.
+use mathlib.Core.Path.{refl}
+use native.Mathlib.Omega.{arith}
+use borrow.Author.Needs.{needs}
+use Rattle.om3.proofs.Levels.{P-most}
+use Rattle.walking.specs.Walking.{TableWalked}
+use Rattle.walking.specs.declared.Walked.{Walked}
+use Rattle.columns.proofs.Finishing as laws
+use Rattle.columns.proofs.finished_over.Statement.{statement}
+use Rattle.columns.proofs.finished_over.Tie as tie
+
+-- The column has an hour, and the walk is through.
+abbrev hour-at : tie.After-seen → tie.Else1
+hour-at c = c .before .before .before
+
+through : (c : tie.After-seen) →
+    (let a = hour-at c .before .before .before .args in
+    TableWalked (a .n) (a .coefficients .now) (a .codes .now) (a .x) 1 (Walked.Through (c .seen .given .0 .0)))
+through c = rw (c .seen .given .1) at (c .before .before .walk-table .ensures)
+
+returns : tie.Need-returns
+returns c = laws.finished-none _ _ _ _ (c .if1 .taken)
+
+walk-table-requires : tie.Need-walk-table-requires
+walk-table-requires c κs = search needs
+
+enum-known-i : tie.Need-enum-known-i
+enum-known-i c = search needs
+
+enum-known-seen : tie.Need-enum-known-seen
+enum-known-seen c = search needs
+
+visited-requires : tie.Need-visited-requires
+visited-requires c κs =
+    let start = hour-at (c .before) .before .before .before in
+    omega (arith, through (c .before) .few _ refl, P-most (start .args .n))
+
+enum-told : tie.Need-enum-told
+enum-told c = search needs
+
+enum-known-nodes : tie.Need-enum-known-nodes
+enum-known-nodes c = search needs
+
+found-requires : tie.Need-found-requires
+found-requires c κs =
+    let c5 = c .before .before .before .before .before in
+    let else = hour-at c5 in
+    let start = else .before .before .before in
+    let e = c .before .nodes .given .1 in
+    let t = through c5 in
+    let some = else .if1 .left in
+    let N = laws.inner-nodes _ _ _ _ some _ t _ _ _ e in (
+      laws.nodes-below _ _ _ _ some _ t _ _ _ e,
+      (
+        laws.first-hours _ _ _ _ _ _ N,
+        laws.last-hours _ _ _ _ _ _ N,
+        omega (arith, t .few _ refl, P-most (start .args .n), c .before .before .before .visited .ensures),
+      ),
+    )
+
+returns-2 : tie.Need-returns-2
+returns-2 c =
+    let c3 = c .before .before .before in
+    let told = rw (c .before .i .given .1) at (c3 .walk-table .ensures) in
+    laws.finished-unsound _ _ _ _ (c3 .before .if1 .left) _ told
+
+returns-3 : tie.Need-returns-3
+returns-3 c =
+    let c4 = c .before .before .before .before in
+    rw (c .before .before .visited .ensures)
+    (laws.finished-nothing _ _ _ _ (hour-at c4 .if1 .left) _ (through c4) (c .enum-told .given .1))
+
+returns-4 : tie.Need-returns-4
+returns-4 c =
+    let c6 = c .before .before .before .before .before .before in
+    laws.finished-nodes _ _ _ _ (hour-at c6 .if1 .left) _ (through c6) _ _ _ (c .before .before .nodes .given .1) _
+    (rw (c .before .before .before .before .visited .ensures) at (c .found .ensures))
+
+pub finished-over-spec : {M : Type 1} → statement M
+finished-over-spec =
+    tie.close
+    (tie.spec
+    returns
+    walk-table-requires
+    enum-known-i
+    enum-known-seen
+    visited-requires
+    enum-told
+    enum-known-nodes
+    found-requires
+    returns-2
+    returns-3
+    returns-4)

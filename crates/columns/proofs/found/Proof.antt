@@ -1,0 +1,102 @@
+-- `found` descends to the first reading and, if it came there, to the last. Assumes nothing.
+use mathlib.Core.Path.{refl}
+use native.Mathlib.Omega.{arith}
+use borrow.Author.Needs.{needs}
+use Rattle.signed.proofs.Widths.{reads-back}
+use Rattle.walking.specs.Descending.{DescendedFrom}
+use Rattle.walking.specs.declared.Descended.{Descended}
+use Rattle.walking.specs.declared.Towards.{Towards}
+use Rattle.columns.proofs.Founding as laws
+use Rattle.columns.proofs.found.Statement.{statement}
+use Rattle.columns.proofs.found.Tie as tie
+
+-- The descent to the first reading came there; then that to the last.
+came-first : (c : tie.After-reading) →
+    (let a = c .before .before .before .before .args in
+    let e = c .reading .given .0 in
+    DescendedFrom (a .n) (a .coefficients .now) (a .codes .now) Towards.First 0 (a .first)
+    (Descended.Came (e .0) (e .1 .0)))
+came-first c = rw (c .reading .given .1) at (c .before .before .descend .ensures)
+
+came-last : (c : tie.After-latest) →
+    (let a = c .before .before .before .before .before .before .before .before .args in
+    let e = c .latest .given .0 in
+    DescendedFrom (a .n) (a .coefficients .now) (a .codes .now) Towards.Last 0 (a .last)
+    (Descended.Came (e .0) (e .1 .0)))
+came-last c = rw (c .latest .given .1) at (c .before .before .descend2 .ensures)
+
+descend-requires : tie.Need-descend-requires
+descend-requires c κs = search needs
+
+enum-known-i : tie.Need-enum-known-i
+enum-known-i c = search needs
+
+enum-known-reading : tie.Need-enum-known-reading
+enum-known-reading c = search needs
+
+descend-requires-2 : tie.Need-descend-requires-2
+descend-requires-2 c κs = search needs
+
+enum-known-i-2 : tie.Need-enum-known-i-2
+enum-known-i-2 c = search needs
+
+enum-known-latest : tie.Need-enum-known-latest
+enum-known-latest c = search needs
+
+add-walked : tie.Need-add-walked
+add-walked c =
+    let c5 = c .before .before .before .before .before in
+    let start = c5 .before .before .before .before in
+    omega (arith, came-first c5 .few _ _ refl, start .pre .1)
+
+add-walked-2 : tie.Need-add-walked-2
+add-walked-2 c =
+    let c1 = c .before in
+    let c5 = c1 .before .before .before .before in
+    let start = c5 .before .before .before .before in
+    omega (arith, came-first c5 .few _ _ refl, came-last c1 .few _ _ refl, start .pre .1)
+
+low-of-requires : tie.Need-low-of-requires
+low-of-requires c κs = search needs
+
+high-of-requires : tie.Need-high-of-requires
+high-of-requires c κs = search needs
+
+returns : tie.Need-returns
+returns c =
+    let told = rw (c .before .i .given .1) at (c .before .before .before .descend .ensures) in
+    laws.first-unsound _ _ _ _ _ _ _ _ told
+
+returns-2 : tie.Need-returns-2
+returns-2 c =
+    let c1 = c .before in
+    let c3 = c1 .before .before in
+    let told = rw (c1 .i2 .given .1) at (c3 .descend2 .ensures) in
+    laws.last-unsound _ _ _ _ _ _ _ _ _ (came-first (c3 .before .before)) _ told
+
+returns-3 : tie.Need-returns-3
+returns-3 c =
+    let c3 = c .before .before .before in
+    let c7 = c3 .before .before .before .before in
+    let l = c .before .low-of in
+    let h = c .high-of in
+    rw (reads-back (l .result) (l .ok), reads-back (h .result) (h .ok), l .ensures, h .ensures)
+    (laws.both-came _ _ _ _ _ _ _ _ _ (came-first c7) _ _ (came-last c3))
+
+pub found-spec : {M : Type 1} → statement M
+found-spec =
+    tie.close
+    (tie.spec
+    descend-requires
+    enum-known-i
+    enum-known-reading
+    descend-requires-2
+    enum-known-i-2
+    enum-known-latest
+    add-walked
+    add-walked-2
+    low-of-requires
+    high-of-requires
+    returns
+    returns-2
+    returns-3)

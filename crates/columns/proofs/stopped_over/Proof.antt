@@ -1,0 +1,66 @@
+-- `stopped_over` walks the table and counts what was opened. Assumes nothing.
+use mathlib.Core.Path.{refl}
+use native.Mathlib.Omega.{arith}
+use borrow.Author.Needs.{needs}
+use Rattle.om3.proofs.Levels.{P-most}
+use Rattle.walking.specs.Walking.{TableWalked}
+use Rattle.walking.specs.declared.Walked.{Walked}
+use Rattle.columns.proofs.Stopping as laws
+use Rattle.columns.proofs.stopped_over.Statement.{statement}
+use Rattle.columns.proofs.stopped_over.Tie as tie
+
+-- The column has an hour, and the walk is through.
+abbrev hour-at : tie.After-seen → tie.Else1
+hour-at c = c .before .before .before
+
+through : (c : tie.After-seen) →
+    (let a = hour-at c .before .before .before .args in
+    TableWalked (a .n) (a .coefficients .now) (a .codes .now) (a .x) (a .stop)
+    (Walked.Through (c .seen .given .0 .0)))
+through c = rw (c .seen .given .1) at (c .before .before .walk-table .ensures)
+
+returns : tie.Need-returns
+returns c = laws.stopped-none _ _ _ _ _ (c .if1 .taken)
+
+walk-table-requires : tie.Need-walk-table-requires
+walk-table-requires c κs = search needs
+
+enum-known-i : tie.Need-enum-known-i
+enum-known-i c = search needs
+
+enum-known-seen : tie.Need-enum-known-seen
+enum-known-seen c = search needs
+
+inner-range-requires : tie.Need-inner-range-requires
+inner-range-requires c κs = search needs
+
+visited-requires : tie.Need-visited-requires
+visited-requires c κs =
+    let c2 = c .before .before in
+    let start = hour-at c2 .before .before .before in
+    omega (arith, through c2 .few _ refl, P-most (start .args .n))
+
+returns-2 : tie.Need-returns-2
+returns-2 c =
+    let c3 = c .before .before .before in
+    let told = rw (c .before .i .given .1) at (c3 .walk-table .ensures) in
+    laws.stopped-unsound _ _ _ _ _ (c3 .before .if1 .left) _ told
+
+returns-3 : tie.Need-returns-3
+returns-3 c =
+    let c3 = c .before .before .before in
+    rw (c .before .inner-range .ensures, c .visited .ensures)
+    (laws.stopped-seen _ _ _ _ _ (hour-at c3 .if1 .left) _ (through c3))
+
+pub stopped-over-spec : {M : Type 1} → statement M
+stopped-over-spec =
+    tie.close
+    (tie.spec
+    returns
+    walk-table-requires
+    enum-known-i
+    enum-known-seen
+    inner-range-requires
+    visited-requires
+    returns-2
+    returns-3)

@@ -1,0 +1,113 @@
+-- What the inner functions of the columns promise; the calls themselves cite om3's definitions. Assumes nothing.
+--
+--   Edged a b w k          the numbers of an edge are small enough to compute with
+--   lentChecks n t         checks 1 and 3 of a table
+--   windowChecks           checks 5 and 6
+--   innerRange i           the range over the nodes of an inner range
+--   StoppedOver            the contract of a column stopped at nodes of so many hours, its buffers lent
+--   StoppedAt              the contract of check 7 and of the column stopped at that depth, its buffers lent
+--   answeredBy c a m       a finished answer a with its count m, or the refusal of a check c
+--   SmallAnswer a          first and last reading of an answer are small enough to subtract
+--   Answers r              every answer of r is so
+--   walksCheck, foundOf    the examination of the walks from node u and from node v, and the answer they lead to
+--   FoundFrom              the contract of the descents from the first and the last inner node
+--   FinishedOver           the contract of a finished column, its buffers lent
+use mathlib.Core.Path.{_≡_}
+use mathlib.Core.List.{List, [], _∷_}
+use Prim.Native.Nat.{ℕ, _+_, _-_, _^_, _≤_}
+use lib.IntN.{ℤ}
+use Rattle.words.specs.Constants.{largestHours, mostColumns}
+use Rattle.words.specs.Said.{lowOf, highOf}
+use Rattle.words.specs.declared.Column.{Column}
+use Rattle.words.specs.declared.Range.{Range}
+use Rattle.words.specs.declared.Range.the-variants.{Empty}
+use Rattle.words.specs.declared.Answer.{Answer}
+use Rattle.words.specs.declared.Finished.{Finished}
+use Rattle.words.specs.declared.Stopped.{Stopped}
+use Rattle.om3.specs.Series.{levels}
+use Rattle.om3.specs.Nodes.{Node}
+use Rattle.om3.specs.Table.{Table, lent}
+use Rattle.om3.specs.Checks.{Check, passes, refuses, andThen, inOrder}
+use Rattle.om3.specs.Refusals.{checkHours, tableShort, checkRoom, checkWindow, checkColumn, checkDepth}
+use Rattle.om3.specs.Stopped.{examineOpened, stoppedBy}
+use Rattle.om3.specs.Finished.{walk, walkEnd, towardsFirst, towardsLast, readingAt, examineFinished, finishedBy}
+use Rattle.turning.specs.Turning.{examineNodes}
+use Rattle.walking.specs.Nodes.{At}
+use Rattle.walking.specs.Descending.{Small}
+use Rattle.walking.specs.declared.Inner.{Inner}
+use Rattle.walking.specs.declared.Reached.{Reached}
+
+-- A window [a, b) of at most 16,384 hours in w columns, 1 ≤ w ≤ 4,096, and k at most w.
+pub record Edged (a b w k : ℕ) : Type 0 where
+  pub ordered : a ≤ b
+  pub hours : b ≤ largestHours
+  pub some : 1 ≤ w
+  pub most : w ≤ mostColumns
+  pub among : k ≤ w
+
+-- The checks of a column come in this order: of the table, of the window, of the depth, of the nodes. [refusals 17]
+abbrev pub lentChecks : ℕ → Table → Check
+lentChecks n t = inOrder (checkHours n ∷ checkRoom (tableShort n t) ∷ [])
+
+abbrev pub windowChecks : (n a b w k : ℕ) → Check
+windowChecks n a b w k = inOrder (checkWindow n a b ∷ checkColumn w k ∷ [])
+
+-- No nodes: the empty range. [columns 11]
+abbrev pub innerRange : Inner → Range
+innerRange Inner.Nothing = Empty
+innerRange (Inner.Nodes range first last) = range
+
+-- The answer is that of every depth d up to l whose nodes cover so many hours.
+pub record StoppedOver (n : ℕ) (cs : List ℤ) (ks : List ℕ) (x : Column) (stop : ℕ) (r : Stopped) : Type 0 where
+  pub answer : (d : ℕ) → d ≤ levels n → stop ≡ 2 ^ (levels n - d)
+      → r ≡ stoppedBy (levels n) (lent cs ks) x (examineOpened (levels n) (lent cs ks) x n d) d
+
+-- Check 7 comes first, then the examination, then the answer. [refusals 17]
+pub record StoppedAt (n : ℕ) (cs : List ℤ) (ks : List ℕ) (x : Column) (d : ℕ) (r : Stopped) : Type 0 where
+  pub answer : r ≡ stoppedBy (levels n) (lent cs ks) x
+      (inOrder (checkDepth n d ∷ examineOpened (levels n) (lent cs ks) x n d ∷ [])) d
+
+-- The answer with its count if the check passes, else its refusal.
+abbrev pub answeredBy : Check → Answer → ℕ → Finished
+answeredBy passes a m = Finished.Answered a m
+answeredBy (refuses why) a m = Finished.Refused why
+
+-- Both from −1,000,000 to 2,000,003, so that their difference is a number of 32 bits.
+abbrev pub SmallAnswer : Answer → Type 0
+SmallAnswer Answer.NoReading = Unit
+SmallAnswer (Answer.Found s) = Small (s .first .grams) × Small (s .last .grams)
+
+-- If r is an answer and no refusal, it is a small one.
+pub record Answers (r : Finished) : Type 0 where
+  pub small : (a : Answer) (m : ℕ) → r ≡ Finished.Answered a m → SmallAnswer a
+
+-- The walk to the first reading is examined from u down, then that to the last from v down. [columns 15, 16]
+abbrev pub walksCheck : (l n : ℕ) → Table → Node → Node → Check
+walksCheck l n t u v =
+    andThen (examineNodes l n t (walk (towardsFirst l t) (l - u .level) u))
+    (examineNodes l n t (walk (towardsLast l t) (l - v .level) v))
+
+-- The readings at the ends of the two walks, with the low and the high of the inner range. [columns 15, 16]
+abbrev pub foundOf : (l : ℕ) → Table → Range → Node → Node → Answer
+foundOf l t range u v =
+    Answer.Found
+    (record {
+      first = readingAt l t (walkEnd (towardsFirst l t) (l - u .level) u);
+      last = readingAt l t (walkEnd (towardsLast l t) (l - v .level) v);
+      low = lowOf range;
+      high = highOf range;
+    })
+
+-- The answer is that of every column whose first inner node is u and whose last is v: each walk counts the levels it
+-- goes down. [columns 15]
+pub record FoundFrom (n : ℕ) (cs : List ℤ) (ks : List ℕ) (range : Range) (first last : Reached) (count : ℕ)
+    (r : Finished) : Type 0 where
+  pub answers : Answers r
+  pub answer : (l : ℕ) (u v : Node) → At l (lent cs ks) u first → At l (lent cs ks) v last
+      → r ≡ answeredBy (walksCheck l n (lent cs ks) u v) (foundOf l (lent cs ks) range u v)
+      (count + (l - u .level) + (l - v .level))
+
+-- The answer is the definition's, after its examination.
+pub record FinishedOver (n : ℕ) (cs : List ℤ) (ks : List ℕ) (x : Column) (r : Finished) : Type 0 where
+  pub answers : Answers r
+  pub answer : r ≡ finishedBy (levels n) (lent cs ks) x (examineFinished (levels n) (lent cs ks) x n)

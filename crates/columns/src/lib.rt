@@ -1,0 +1,383 @@
+// What the tablet draws: the edges of a column, a column stopped at a depth and a finished one, two answers joined, and
+// the change of a day.
+use walking::Descended;
+use walking::Inner;
+use walking::Reached;
+use walking::Towards;
+use walking::Walked;
+use words::Answer;
+use words::Column;
+use words::DayChange;
+use words::Edges;
+use words::Finished;
+use words::Range;
+use words::Refusal;
+use words::Stopped;
+use words::Summary;
+use words::Taking;
+use words::Timestamp;
+ghost use mathlib.Core.Path.{_≡_};
+ghost use mathlib.Core.Bool.{not, _&&_, _||_};
+ghost use Prim.Native.Nat.{_+_, _*_, _≤_, _<_};
+ghost use lib.Dec.{leb, ltb, eqb};
+ghost use Rattle.words.specs.Constants.{largestHours, mostColumns, dayHours};
+ghost use Rattle.om3.specs.Table.{lent as table};
+ghost use Rattle.om3.specs.Calls.{takingBy};
+ghost use Rattle.om3.specs.Columns.{edge as edgeOf, column as columnOf, edgesBy, edges as edgesOf};
+ghost use Rattle.om3.specs.Stopped.{stopped as stoppedOf};
+ghost use Rattle.om3.specs.Finished.{finished as finishedOf};
+ghost use Rattle.om3.specs.Joined.{joined};
+ghost use Rattle.om3.specs.Days.{day as dayOf, changeOf, dayChange};
+ghost use Rattle.turning.specs.Turning.{TableLent};
+ghost use Rattle.walking.specs.Nodes.{Below};
+ghost use Rattle.columns.specs.Drawing.{Edged, lentChecks, windowChecks, innerRange};
+ghost use Rattle.columns.specs.Drawing.{StoppedOver, StoppedAt, FoundFrom, FinishedOver, SmallAnswer};
+
+// The count of a column without an hour.
+const NO_NODES: usize = 0;
+
+// Check 5: whether [a, b) is no window of n hours.
+fn bad_window(n: usize, a: Timestamp, b: Timestamp) -> bool
+    ensures { λ r. ⌜ r ≡ not (ltb (a .0) (b .0) && leb (b .0) n) ⌝ }
+{
+    if a.0 < b.0 {
+        if b.0 <= n {
+            return false;
+        }
+    }
+    true
+}
+
+// Check 6: whether w is no number of columns, or k none of them.
+fn bad_column(w: usize, k: usize) -> bool
+    ensures { λ r. ⌜ r ≡ (eqb w 0 || ltb mostColumns w || leb w k) ⌝ }
+{
+    if w == 0 {
+        return true;
+    }
+    if words::MOST_COLUMNS < w {
+        return true;
+    }
+    w <= k
+}
+
+// The first hour of column k of [a, b) in w columns, or, for k = w, the window's end. Needs a window of at most 16,384
+// hours and k at most w, w from 1 to 4,096.
+fn edge(a: Timestamp, b: Timestamp, w: usize, k: usize) -> Timestamp
+    requires { ⌜ Edged (a .0) (b .0) w k ⌝ }
+    ensures { λ r. ⌜ r ≡ edgeOf (a .0) (b .0) w k ⌝ }
+{
+    let length = b.0 - a.0;
+    let passed = k * length;
+    let cut = (passed + (w - 1)) / w;
+    let hour = a.0 + cut;
+    Timestamp(hour)
+}
+
+// Checks 5 and 6, and then the column's hours. Needs n to be at most 16,384.
+fn window_column(n: usize, a: Timestamp, b: Timestamp, w: usize, k: usize) -> Edges
+    requires { ⌜ n ≤ largestHours ⌝ }
+    ensures { λ r. ⌜ r ≡ edgesBy (windowChecks n (a .0) (b .0) w k) (columnOf (a .0) (b .0) w k) ⌝ }
+{
+    if bad_window(n, a, b) {
+        return Edges::Refused(Refusal::BadWindow);
+    }
+    if bad_column(w, k) {
+        return Edges::Refused(Refusal::BadColumn);
+    }
+    let from = edge(a, b, w, k);
+    let upto = edge(a, b, w, k + 1);
+    Edges::Hours(Column { from, upto })
+}
+
+// The hours of column k of the window [a, b) in w columns. Refusals in the order 1, 5, 6.
+pub fn edges(n: usize, a: Timestamp, b: Timestamp, w: usize, k: usize) -> Edges
+    ensures { λ r. ⌜ r ≡ edgesOf n (a .0) (b .0) w k ⌝ }
+{
+    if sizes::bad_hours(n) {
+        return Edges::Refused(Refusal::BadHours);
+    }
+    window_column(n, a, b, w, k)
+}
+
+// Checks 1 and 3 of a table.
+fn check_lent(n: usize, coefficients: &[i32], codes: &[u8]) -> Taking
+    ensures { λ r. ⌜ r ≡ takingBy (lentChecks n (table (now (coefficients .entry)) (now (codes .entry)))) ⌝ }
+{
+    if sizes::bad_hours(n) {
+        return Taking::Refused(Refusal::BadHours);
+    }
+    let p = sizes::places(n);
+    if coefficients.len() < p {
+        return Taking::Refused(Refusal::ShortBuffer);
+    }
+    if codes.len() < p / 2 {
+        return Taking::Refused(Refusal::ShortBuffer);
+    }
+    Taking::Taken
+}
+
+// The range of the inner nodes that were met.
+fn inner_range(inner: Inner) -> Range
+    ensures { λ r. ⌜ r ≡ innerRange inner ⌝ }
+{
+    match inner {
+        Inner::Nothing => Range::Empty,
+        Inner::Nodes {
+            range,
+            first: _,
+            last: _,
+        } => range,
+    }
+}
+
+// The count of so many opened nodes: node 1, and both halves of each. Needs at most 16,384 of them.
+fn visited(opened: usize) -> usize
+    requires { ⌜ opened ≤ largestHours ⌝ }
+    ensures { λ r. ⌜ r ≡ 1 + 2 * opened ⌝ }
+{
+    1 + 2 * opened
+}
+
+// A column of a table, stopped at nodes that cover so many hours, at least 1. Needs the buffers lent. A column without
+// an hour is answered with the table not examined.
+fn stopped_over(n: usize, coefficients: &[i32], codes: &[u8], x: Column, stop: usize) -> Stopped
+    requires { ⌜ TableLent n (now coefficients) (now codes) ⌝ }
+    requires { ⌜ 1 ≤ stop ⌝ }
+    ensures { λ r. ⌜ StoppedOver n (now (coefficients .entry)) (now (codes .entry)) x stop r ⌝ }
+{
+    if x.upto.0 <= x.from.0 {
+        return Stopped::Ranges {
+            outer: Range::Empty,
+            inner: Range::Empty,
+            count: NO_NODES,
+        };
+    }
+    match walking::walk_table(n, coefficients, codes, x, stop) {
+        Walked::Unsound(i) => Stopped::Refused(Refusal::Unsound(i)),
+        Walked::Through(seen) => {
+            let outer = seen.outer;
+            let nodes = seen.inner;
+            let inner = inner_range(nodes);
+            let count = visited(seen.opened);
+            Stopped::Ranges {
+                outer,
+                inner,
+                count,
+            }
+        }
+    }
+}
+
+// Check 7, and then the column stopped at depth d: its nodes of level d cover P / 2^d hours. Needs the buffers lent.
+fn stopped_at(n: usize, coefficients: &[i32], codes: &[u8], x: Column, d: usize) -> Stopped
+    requires { ⌜ TableLent n (now coefficients) (now codes) ⌝ }
+    ensures { λ r. ⌜ StoppedAt n (now (coefficients .entry)) (now (codes .entry)) x d r ⌝ }
+{
+    if words::LARGEST_LEVEL < d {
+        return Stopped::Refused(Refusal::TooDeep);
+    }
+    let p = sizes::places(n);
+    let nodes = sizes::power(d);
+    if p < nodes {
+        return Stopped::Refused(Refusal::TooDeep);
+    }
+    let stop = p / nodes;
+    stopped_over(n, coefficients, codes, x, stop)
+}
+
+// Column k of [a, b) in w columns, stopped at depth d. Refusals in the order 1, 3, 5, 6, 7, 4.
+pub fn stopped(
+    n: usize,
+    coefficients: &[i32],
+    codes: &[u8],
+    a: Timestamp,
+    b: Timestamp,
+    w: usize,
+    k: usize,
+    d: usize,
+) -> Stopped
+    ensures { λ r. ⌜ r ≡ stoppedOf n (table (now (coefficients .entry)) (now (codes .entry))) (a .0) (b .0) w k d ⌝ }
+{
+    if let Taking::Refused(why) = check_lent(n, coefficients, codes) {
+        return Stopped::Refused(why);
+    }
+    match window_column(n, a, b, w, k) {
+        Edges::Refused(why) => Stopped::Refused(why),
+        Edges::Hours(x) => stopped_at(n, coefficients, codes, x, d),
+    }
+}
+
+// A column whose first and last inner node these are: the descents to its first and to its last reading. Needs both
+// nodes, with all below them, in the lent buffers, and numbers that can be added.
+fn found(
+    n: usize,
+    coefficients: &[i32],
+    codes: &[u8],
+    range: Range,
+    first: Reached,
+    last: Reached,
+    count: usize,
+) -> Finished
+    requires { ⌜ Below (now coefficients) (now codes) first × Below (now coefficients) (now codes) last ⌝ }
+    requires { ⌜ (first .hours ≤ largestHours) × (last .hours ≤ largestHours) × (count ≤ 2 * largestHours) ⌝ }
+    ensures { λ r. ⌜ FoundFrom n (now (coefficients .entry)) (now (codes .entry)) range first last count r ⌝ }
+{
+    match walking::descend(n, coefficients, codes, Towards::First, first) {
+        Descended::Unsound(i) => Finished::Refused(Refusal::Unsound(i)),
+        Descended::Came { reading, levels } => {
+            match walking::descend(n, coefficients, codes, Towards::Last, last) {
+                Descended::Unsound(i) => Finished::Refused(Refusal::Unsound(i)),
+                Descended::Came {
+                    reading: latest,
+                    levels: further,
+                } => {
+                    let walked = count + levels + further;
+                    Finished::Answered {
+                        answer: Answer::Found(Summary {
+                            first: reading,
+                            last: latest,
+                            low: node::low_of(range),
+                            high: node::high_of(range),
+                        }),
+                        count: walked,
+                    }
+                }
+            }
+        }
+    }
+}
+
+// A finished column of a table. Needs the buffers lent. A column without an hour is answered with the table not
+// examined.
+fn finished_over(n: usize, coefficients: &[i32], codes: &[u8], x: Column) -> Finished
+    requires { ⌜ TableLent n (now coefficients) (now codes) ⌝ }
+    ensures { λ r. ⌜ FinishedOver n (now (coefficients .entry)) (now (codes .entry)) x r ⌝ }
+{
+    if x.upto.0 <= x.from.0 {
+        return Finished::Answered {
+            answer: Answer::NoReading,
+            count: NO_NODES,
+        };
+    }
+    match walking::walk_table(n, coefficients, codes, x, 1) {
+        Walked::Unsound(i) => Finished::Refused(Refusal::Unsound(i)),
+        Walked::Through(seen) => {
+            let nodes = seen.inner;
+            let count = visited(seen.opened);
+            match nodes {
+                Inner::Nothing => Finished::Answered {
+                    answer: Answer::NoReading,
+                    count,
+                },
+                Inner::Nodes { range, first, last } => found(
+                    n,
+                    coefficients,
+                    codes,
+                    range,
+                    first,
+                    last,
+                    count,
+                ),
+            }
+        }
+    }
+}
+
+// Column k of [a, b) in w columns, finished. Refusals in the order 1, 3, 5, 6, 4. [forms 7]
+pub fn finished(
+    n: usize,
+    coefficients: &[i32],
+    codes: &[u8],
+    a: Timestamp,
+    b: Timestamp,
+    w: usize,
+    k: usize,
+) -> Finished
+    ensures { λ r. ⌜ r ≡ finishedOf n (table (now (coefficients .entry)) (now (codes .entry))) (a .0) (b .0) w k ⌝ }
+{
+    if let Taking::Refused(why) = check_lent(n, coefficients, codes) {
+        return Finished::Refused(why);
+    }
+    match window_column(n, a, b, w, k) {
+        Edges::Refused(why) => Finished::Refused(why),
+        Edges::Hours(x) => finished_over(n, coefficients, codes, x),
+    }
+}
+
+// The answer of the hours on the left and the answer of those on the right, together. [forms 10]
+pub fn join(left: Answer, right: Answer) -> Answer
+    ensures { λ r. ⌜ r ≡ joined left right ⌝ }
+{
+    match left {
+        Answer::NoReading => right,
+        Answer::Found(a) => match right {
+            Answer::NoReading => left,
+            Answer::Found(b) => {
+                let first = a.first;
+                let last = b.last;
+                Answer::Found(Summary {
+                    first,
+                    last,
+                    low: node::lesser(a.low, b.low),
+                    high: node::greater(a.high, b.high),
+                })
+            }
+        },
+    }
+}
+
+// Last reading minus first reading of an answer. Needs both to be from -1,000,000 to 2,000,003 grams.
+// [forms 10]
+fn change(answer: Answer) -> DayChange
+    requires { ⌜ SmallAnswer answer ⌝ }
+    ensures { λ r. ⌜ r ≡ changeOf answer ⌝ }
+{
+    match answer {
+        Answer::NoReading => DayChange::NoReading,
+        Answer::Found(s) => {
+            let grams = s.last.grams - s.first.grams;
+            DayChange::Grams(grams)
+        }
+    }
+}
+
+// The hours of day d of n hours. Needs it to have some, and n to be at most 16,384.
+fn day(n: usize, d: usize) -> Column
+    requires { ⌜ (dayHours * d < n) × (n ≤ largestHours) ⌝ }
+    ensures { λ r. ⌜ r ≡ dayOf n d ⌝ }
+{
+    let from = words::DAY_HOURS * d;
+    let next = from + words::DAY_HOURS;
+    if n < next {
+        return Column {
+            from: Timestamp(from),
+            upto: Timestamp(n),
+        };
+    }
+    Column {
+        from: Timestamp(from),
+        upto: Timestamp(next),
+    }
+}
+
+// Day d's last reading minus its first. Refusals in the order 1, 3, 5, 4.
+pub fn day_change(n: usize, coefficients: &[i32], codes: &[u8], d: usize) -> DayChange
+    ensures { λ r. ⌜ r ≡ dayChange n (table (now (coefficients .entry)) (now (codes .entry))) d ⌝ }
+{
+    if let Taking::Refused(why) = check_lent(n, coefficients, codes) {
+        return DayChange::Refused(why);
+    }
+    // So late a day can't be multiplied, and has no hour.
+    if words::LARGEST_HOURS <= d {
+        return DayChange::Refused(Refusal::BadWindow);
+    }
+    if n <= words::DAY_HOURS * d {
+        return DayChange::Refused(Refusal::BadWindow);
+    }
+    let x = day(n, d);
+    match finished_over(n, coefficients, codes, x) {
+        Finished::Refused(why) => DayChange::Refused(why),
+        Finished::Answered { answer, count: _ } => change(answer),
+    }
+}
