@@ -16,13 +16,12 @@ use Rattle.om3.specs.Table.{Table, coefficient, codeOfPlace, tableOf, HasTable,
 use Rattle.om3.specs.Down.{turnedBack}
 use Rattle.om3.specs.Checks.{passes}
 use Rattle.om3.specs.Sound.{soundTable}
-use Rattle.om3.specs.Refusals.{tableShort}
-use Rattle.om3.specs.Refusals.{makingChecks, turningBackChecks}
+use Rattle.om3.specs.Refusals.{tableShort, Enough, makingChecks, turningBackChecks}
 use Rattle.om3.specs.Calls.{filled}
 use Rattle.om3.proofs.Filled.{filled-first, filled-room}
-use Rattle.om3.proofs.Lists.{map-up-length}
+use Rattle.om3.proofs.Lists.{map-up-length, take-room}
 use Rattle.om3.proofs.Examined.{examine-sound}
-use Rattle.om3.proofs.TableChecks.{Enough, decided, table-room, passed}
+use Rattle.om3.proofs.TableChecks.{decided, table-room, passed}
 use Rattle.om3.proofs.TurnedBack.{turned-length}
 use Rattle.om3.proofs.Demand2 as demand2
 use Rattle.om3.proofs.Making.{good-some, making-series}
@@ -59,6 +58,23 @@ module _ (n : ℕ) (cs : List ℤ) (ks : List ℕ) (out : List ℤ) where
           let e = rw ok at (done .hours) in
           e ∙ ap (λ (u : List ℤ). filled u out) (sym (demand2.has-turned n s T series has))
 
+-- Buffers that begin with the table of a series have it.
+module _ (n : ℕ) (s : List ℤ) where
+  details-length : length (tableOf (levels n) n s .coefficients) ≡ P n
+  details-length = map-up-length (coefficient (levels n) n s) 0 (P n)
+
+  pairs-length : length (tableOf (levels n) n s .codes) ≡ P n / 2
+  pairs-length = map-up-length (codeOfPlace (levels n) n s) 0 (P n / 2)
+
+  module _ (cs cs′ : List ℤ) (ks ks′ : List ℕ) where
+    pub filled-has : cs′ ≡ filled (tableOf (levels n) n s .coefficients) cs
+        → ks′ ≡ filled (tableOf (levels n) n s .codes) ks → HasTable n s (lent cs′ ks′)
+    filled-has d p =
+        record {
+          coefficients = ap (take (P n)) d ∙ filled-first _ cs _ details-length;
+          codes = ap (take (P n / 2)) p ∙ filled-first _ ks _ pairs-length;
+        }
+
 -- There and back.
 module _ (n : ℕ) where
   abbrev l : ℕ
@@ -83,18 +99,11 @@ module _ (n : ℕ) where
     pairs : ks′ ≡ filled (tableOf l n first .codes) ks
     pairs = rw made-passes at (made .codes) ∙ ap (λ (t : Table). filled (t .codes) ks) (table-first n s)
 
-    abbrev details-length : length (tableOf l n first .coefficients) ≡ P n
-    details-length = map-up-length (coefficient l n first) 0 (P n)
-
-    abbrev pairs-length : length (tableOf l n first .codes) ≡ P n / 2
-    pairs-length = map-up-length (codeOfPlace l n first) 0 (P n / 2)
-
     has-table : HasTable n first (lent cs′ ks′)
-    has-table =
-        record {
-          coefficients = ap (take (P n)) details ∙ filled-first _ cs _ details-length;
-          codes = ap (take (P n / 2)) pairs ∙ filled-first _ ks _ pairs-length;
-        }
+    has-table = filled-has n first cs cs′ ks ks′ details pairs
+
+    pub made-series : Series n first × HasTable n first (lent cs′ ks′)
+    made-series = (first-series, has-table)
 
     pub turned-back-after : (out out′ : List ℤ) (r : Taking) → n ≤ length out → TurnedBack n cs′ ks′ out out′ r
         → (r ≡ Taking.Taken) × (out′ ≡ filled first out)
@@ -102,12 +111,35 @@ module _ (n : ℕ) where
         let room : Enough n cs′ ks′ (length out) n =
         record {
           good = good-hours n (first-series .some) (first-series .most);
-          coefficients = rw details (filled-room (tableOf l n first .coefficients) cs _ details-length);
-          codes = rw pairs (filled-room (tableOf l n first .codes) ks _ pairs-length);
+          coefficients = rw details (filled-room (tableOf l n first .coefficients) cs _ (details-length n first));
+          codes = rw pairs (filled-room (tableOf l n first .codes) ks _ (pairs-length n first));
           buffer = hours;
         } in (
           taken-exactly n cs′ ks′ out room out′ r done .1 (first, first-series, has-table),
           writes-series n cs′ ks′ out room out′ r done first first-series has-table,
+        )
+
+  -- With room lent, making takes a series, the first n numbers lent, and writes its table, and nothing after it.
+  module _ (s cs : List ℤ) (ks : List ℕ) (series : Series n (take n s)) (room : tableShort n (lent cs ks) ≡ false) where
+    lent-holds : Holds n s
+    lent-holds k b = rw (getD-take n s k gap b) at (series .holds k b)
+
+    make-passes : makingChecks n s (lent cs ks) ≡ passes
+    make-passes =
+        let good = good-hours n (series .some) (series .most) in
+        let wide = le-ltb (length s) n (take-room n s (series .size)) in
+        making-decided n good s (lent cs ks) (rw wide room) ∙ readings-pass n s lent-holds
+
+    pub make-writes : (cs′ : List ℤ) (ks′ : List ℕ) (r : Taking) → Made n s cs ks cs′ ks′ r
+        → (r ≡ Taking.Taken) × (cs′ ≡ filled (tableOf (levels n) n (take n s) .coefficients) cs)
+        × (ks′ ≡ filled (tableOf (levels n) n (take n s) .codes) ks) × HasTable n (take n s) (lent cs′ ks′)
+    make-writes cs′ ks′ r made =
+        let taken : Made n s cs ks cs′ ks′ Taking.Taken =
+        record { answer = rw make-passes; coefficients = made .coefficients; codes = made .codes } in (
+          rw make-passes at (made .answer),
+          details s cs cs′ ks ks′ taken,
+          pairs s cs cs′ ks ks′ taken,
+          has-table s cs cs′ ks ks′ taken,
         )
 
   -- Making what was turned back gives the same table.

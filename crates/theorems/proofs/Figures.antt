@@ -38,6 +38,13 @@ P-at-least-2 = levels-laws.2≤P
 P-smallest : (n j : ℕ) → n ≤ 2 ^ j → 2 ≤ 2 ^ j → P n ≤ 2 ^ j
 P-smallest = levels-laws.P-smallest
 
+-- P = 2^l, and l is from 1 to 14.
+levels-from-1 : (n : ℕ) → 1 ≤ levels n
+levels-from-1 = levels-laws.levels-some
+
+levels-to-14 : (n : ℕ) → levels n ≤ 14
+levels-to-14 = levels-laws.levels-most
+
 -- With room lent, a table is sound exactly if some series of n hours has it.
 sound-exactly : (n : ℕ) → 1 ≤ n → n ≤ largestHours → (t : Table) → tableShort n t ≡ false
     → (soundTable (levels n) n t ≡ true) ↔ ((s : List ℤ) × Series n s × HasTable n s t)
@@ -68,7 +75,7 @@ three-forth = three.three-forth
 three-one : (y z : ℤ) → InThree y → InThree z → threeBytes y ≡ threeBytes z → y ≡ z
 three-one = three.three-one
 
--- The record, the same facts in the same order, but that one table has one record, which is on the page; and what
+-- The record, the same facts in the same order, but that one table has one record, which is in Besides; and what
 -- opening takes.
 record-size : (n : ℕ) (t : Table) → tableShort n t ≡ false → length (recordOf n t) ≡ recordSize n
 record-size = records.record-size

@@ -1,6 +1,8 @@
--- The laws about the calls, the figures, and then the page.
+-- The laws about the calls, the figures, what is proved beside the demands, and then the page.
 pub mod Once
+pub mod Unwritten
 pub mod Calls
 pub mod Records
 pub mod Figures
+pub mod Besides
 pub mod Theorems

@@ -1,5 +1,8 @@
--- A contract leaves nothing open: two results that it allows are equal, the answers and each lent buffer. Assumes
--- nothing.
+-- Demand 1 for the calls: a contract leaves nothing open, so that two results that it allows are equal, the answer and
+-- each lent buffer. Assumes nothing.
+--
+--   One C      the contract C allows one result: the lent buffers after the call, if any, and the answer
+--   EachCall   the contract of each call allows one result; EachTold, that of each call of the boundary
 use mathlib.Core.Path.{_≡_, refl, sym, _∙_}
 use mathlib.Core.List.{List}
 use Prim.Native.Nat.{ℕ}
@@ -11,9 +14,20 @@ use Rattle.words.specs.declared.Writing.{Writing}
 use Rattle.words.specs.declared.Unpacking.{Unpacking}
 use Rattle.words.specs.declared.Opening.{Opening}
 use Rattle.words.specs.declared.Asking.{Asking}
+use Rattle.words.specs.declared.Edges.{Edges}
+use Rattle.words.specs.declared.Stopped.{Stopped}
+use Rattle.words.specs.declared.Finished.{Finished}
+use Rattle.words.specs.declared.Answer.{Answer}
+use Rattle.words.specs.declared.DayChange.{DayChange}
+use Rattle.om3.specs.Table.{Table}
 use Rattle.om3.specs.Checks.{Check}
 use Rattle.om3.specs.Level.{levelStretch, levelPart}
 use Rattle.om3.specs.Record.{openedRecord, askedView, askedRecord}
+use Rattle.om3.specs.Columns.{edges}
+use Rattle.om3.specs.Stopped.{stopped}
+use Rattle.om3.specs.Finished.{finished}
+use Rattle.om3.specs.Joined.{joined}
+use Rattle.om3.specs.Days.{dayChange}
 use Rattle.making.specs.Making.{Made}
 use Rattle.turning.specs.declared.Verdict.{Verdict}
 use Rattle.turning.specs.Turning.{checkOf, TurnedBack}
@@ -24,42 +38,79 @@ use Rattle.sagivelume.specs.declared.ToldBytes.{ToldBytes}
 use Rattle.sagivelume.specs.declared.ToldHours.{ToldHours}
 use Rattle.sagivelume.specs.declared.ToldRecord.{ToldRecord}
 use Rattle.sagivelume.specs.declared.ToldCoefficient.{ToldCoefficient}
+use Rattle.sagivelume.specs.declared.ToldColumn.{ToldColumn}
+use Rattle.sagivelume.specs.declared.ToldRanges.{ToldRanges}
+use Rattle.sagivelume.specs.declared.ToldAnswer.{ToldAnswer}
+use Rattle.sagivelume.specs.declared.ToldFinished.{ToldFinished}
+use Rattle.sagivelume.specs.declared.ToldChange.{ToldChange}
 use Rattle.sagivelume.specs.declared.Places.{Places}
 use Rattle.sagivelume.specs.Boundary.{placesOf, openingTold, askingTold, MakeTold, TurnBackTold}
 use Rattle.sagivelume.specs.Boundary.{WriteTold, ReadTold}
+use Rattle.sagivelume.specs.Columns.{edgesTold, stoppedTold, answerTold, answerIn, finishedTold, changeTold}
 
+-- Two results that the contract C allows are equal.
+abbrev pub One : {A : Type 0} → (A → Type 0) → Type 0
+One {A} C = (x y : A) → C x → C y → x ≡ y
+
+-- The contract of each call of the boundary, which tells the answer as a flat struct, allows one result.
+pub record EachTold : Type 0 where
+  pub make : (n : ℕ) (s cs : List ℤ) (ks : List ℕ)
+      → One (λ (o : List ℤ × List ℕ × Told). MakeTold n s cs ks (o .0) (o .1) (o .2))
+  pub turn-back : (n : ℕ) (cs : List ℤ) (ks : List ℕ) (out : List ℤ)
+      → One (λ (o : List ℤ × Told). TurnBackTold n cs ks out (o .0) (o .1))
+  pub level : (n j : ℕ) (cs : List ℤ) → One (λ (r : Places). r ≡ placesOf (levelStretch n j (length cs)))
+  pub write-record : (n : ℕ) (cs : List ℤ) (ks out : List ℕ)
+      → One (λ (o : List ℕ × ToldBytes). WriteTold n cs ks out (o .0) (o .1))
+  pub read-record : (r : List ℕ) (cs : List ℤ) (ks : List ℕ)
+      → One (λ (o : List ℤ × List ℕ × ToldHours). ReadTold r cs ks (o .0) (o .1) (o .2))
+  pub open-record : (r : List ℕ) → One (λ (u : ToldRecord). u ≡ openingTold (openedRecord r))
+  pub ask : (r : List ℕ) (places p : ℕ) → One (λ (u : ToldCoefficient). u ≡ askingTold (askedView r places p))
+  pub column-edges : (n a b w k : ℕ) → One (λ (r : ToldColumn). r ≡ edgesTold (edges n a b w k))
+  pub stopped-column : (n : ℕ) (t : Table) (a b w k d : ℕ)
+      → One (λ (r : ToldRanges). r ≡ stoppedTold (stopped n t a b w k d))
+  pub finished-column : (n : ℕ) (t : Table) (a b w k : ℕ)
+      → One (λ (r : ToldFinished). r ≡ finishedTold (finished n t a b w k))
+  pub join : (a b : ToldAnswer) → One (λ (r : ToldAnswer). r ≡ answerTold (joined (answerIn a) (answerIn b)))
+  pub day-change : (n : ℕ) (t : Table) (d : ℕ) → One (λ (r : ToldChange). r ≡ changeTold (dayChange n t d))
+
+-- The contract of each call allows one result.
+pub record EachCall : Type 0 where
+  -- Tables: making and turning back, with the lent buffers; one level's details, itself and as places.
+  pub make : (n : ℕ) (s cs : List ℤ) (ks : List ℕ)
+      → One (λ (o : List ℤ × List ℕ × Taking). Made n s cs ks (o .0) (o .1) (o .2))
+  pub turn-back : (n : ℕ) (cs : List ℤ) (ks : List ℕ) (out : List ℤ)
+      → One (λ (o : List ℤ × Taking). TurnedBack n cs ks out (o .0) (o .1))
+  pub level : (n j : ℕ) (cs : List ℤ) → One (λ (r : List ℤ). r ≡ levelPart n j cs)
+  pub stretch : (n j lent : ℕ) → One (λ (r : Stretch). r ≡ levelStretch n j lent)
+  -- The examination of a table says what a check says; no two verdicts are the same check. What it and the columns
+  -- call below a node speaks of the nodes of a table alone and is no user's call.
+  pub examine : (c : Check) → One (λ (r : Verdict). checkOf r ≡ c)
+  -- Records: writing and reading, with the lent buffers; opening; asking a view and asking a record.
+  pub write-record : (n : ℕ) (cs : List ℤ) (ks out : List ℕ)
+      → One (λ (o : List ℕ × Writing). RecordWritten n cs ks out (o .0) (o .1))
+  pub read-record : (r : List ℕ) (cs : List ℤ) (ks : List ℕ)
+      → One (λ (o : List ℤ × List ℕ × Unpacking). RecordRead r cs ks (o .0) (o .1) (o .2))
+  pub open-record : (r : List ℕ) → One (λ (u : Opening). u ≡ openedRecord r)
+  pub ask : (r : List ℕ) (places p : ℕ) → One (λ (u : Asking). u ≡ askedView r places p)
+  pub ask-record : (r : List ℕ) (p : ℕ) → One (λ (u : Asking). u ≡ askedRecord r p)
+  -- Columns: the edges, the answer stopped at a depth, the finished answer; joining; the day change.
+  pub column-edges : (n a b w k : ℕ) → One (λ (r : Edges). r ≡ edges n a b w k)
+  pub stopped-column : (n : ℕ) (t : Table) (a b w k d : ℕ) → One (λ (r : Stopped). r ≡ stopped n t a b w k d)
+  pub finished-column : (n : ℕ) (t : Table) (a b w k : ℕ) → One (λ (r : Finished). r ≡ finished n t a b w k)
+  pub join : (a b : Answer) → One (λ (r : Answer). r ≡ joined a b)
+  pub day-change : (n : ℕ) (t : Table) (d : ℕ) → One (λ (r : DayChange). r ≡ dayChange n t d)
+  -- The boundary's calls.
+  pub told : EachTold
+
+-- An equation allows one result.
 by-equation : {A : Type 0} {r r′ x : A} → r ≡ x → r′ ≡ x → r ≡ r′
 by-equation a b = a ∙ sym b
 
-module _ (n : ℕ) (s cs : List ℤ) (ks : List ℕ) where
-  module _ (cs₁ cs₂ : List ℤ) (ks₁ ks₂ : List ℕ) where
-    pub make-once : (r r′ : Taking) → Made n s cs ks cs₁ ks₁ r → Made n s cs ks cs₂ ks₂ r′
-        → (r ≡ r′) × (cs₁ ≡ cs₂) × (ks₁ ≡ ks₂)
-    make-once r r′ a b = (
-      by-equation (a .answer) (b .answer),
-      by-equation (a .coefficients) (b .coefficients),
-      by-equation (a .codes) (b .codes),
-    )
+equal-once : {A : Type 0} (x : A) → One (λ (r : A). r ≡ x)
+equal-once x r r′ a b = by-equation a b
 
-    pub make-told-once : (r r′ : Told) → MakeTold n s cs ks cs₁ ks₁ r → MakeTold n s cs ks cs₂ ks₂ r′
-        → (r ≡ r′) × (cs₁ ≡ cs₂) × (ks₁ ≡ ks₂)
-    make-told-once r r′ a b =
-        let m = make-once _ _ (a .made) (b .made) in
-        (by-equation (a .answer) (b .answer), m .1, m .2)
-
-module _ (n : ℕ) (cs : List ℤ) (ks : List ℕ) (out out₁ out₂ : List ℤ) where
-  pub turn-back-once : (r r′ : Taking) → TurnedBack n cs ks out out₁ r → TurnedBack n cs ks out out₂ r′
-      → (r ≡ r′) × (out₁ ≡ out₂)
-  turn-back-once r r′ a b = (by-equation (a .answer) (b .answer), by-equation (a .hours) (b .hours))
-
-  pub turn-back-told-once : (r r′ : Told) → TurnBackTold n cs ks out out₁ r → TurnBackTold n cs ks out out₂ r′
-      → (r ≡ r′) × (out₁ ≡ out₂)
-  turn-back-told-once r r′ a b =
-      (by-equation (a .answer) (b .answer), turn-back-once _ _ (a .turned) (b .turned) .1)
-
--- The contract of `examine` gives its verdict as a check; no two verdicts are the same check.
-pub examine-once : (r r′ : Verdict) (c : Check) → checkOf r ≡ c → checkOf r′ ≡ c → r ≡ r′
-examine-once r r′ c a b = same r r′ (by-equation a b)
+examine-once : (c : Check) → One (λ (r : Verdict). checkOf r ≡ c)
+examine-once c r r′ a b = same r r′ (by-equation a b)
   where
     same : (v u : Verdict) → checkOf v ≡ checkOf u → v ≡ u
     same Verdict.Sound Verdict.Sound e = refl
@@ -67,60 +118,60 @@ examine-once r r′ c a b = same r r′ (by-equation a b)
     same (Verdict.Unsound i) Verdict.Sound e = cc
     same (Verdict.Unsound i) (Verdict.Unsound k) e = cc
 
--- The contracts of the level's calls are equations. Those of the examination below a node, of a pair and of two pairs
--- are not: they speak of the nodes of a table alone. No user's call is among them, and `examine`, which calls them,
--- leaves nothing open.
-module _ (n j : ℕ) (cs : List ℤ) where
-  pub level-once : (r r′ : List ℤ) → r ≡ levelPart n j cs → r′ ≡ levelPart n j cs → r ≡ r′
-  level-once r r′ a b = by-equation a b
+-- Contracts of several equations allow one result of several parts.
+two : {A B : Type 0} {a a′ : A} {b b′ : B} → a ≡ a′ → b ≡ b′ → _≡_ {A = A × B} (a, b) (a′, b′)
+two p q i = (p i, q i)
 
-  pub stretch-once : (r r′ : Stretch) → r ≡ levelStretch n j (length cs) → r′ ≡ levelStretch n j (length cs) → r ≡ r′
-  stretch-once r r′ a b = by-equation a b
+three : {A B C : Type 0} {a a′ : A} {b b′ : B} {c c′ : C} → a ≡ a′ → b ≡ b′ → c ≡ c′
+    → _≡_ {A = A × B × C} (a, b, c) (a′, b′, c′)
+three p q r i = (p i, q i, r i)
 
-  pub level-told-once : (r r′ : Places) → r ≡ placesOf (levelStretch n j (length cs))
-      → r′ ≡ placesOf (levelStretch n j (length cs)) → r ≡ r′
-  level-told-once r r′ a b = by-equation a b
+each-told : EachTold
+each-told =
+    record {
+      make = λ n s cs ks x y a b.
+          three (by-equation (a .made .coefficients) (b .made .coefficients))
+          (by-equation (a .made .codes) (b .made .codes)) (by-equation (a .answer) (b .answer));
+      turn-back = λ n cs ks out x y a b.
+          two (by-equation (a .turned .hours) (b .turned .hours)) (by-equation (a .answer) (b .answer));
+      level = λ n j cs. equal-once (placesOf (levelStretch n j (length cs)));
+      write-record = λ n cs ks out x y a b.
+          two (by-equation (a .written .bytes) (b .written .bytes)) (by-equation (a .answer) (b .answer));
+      read-record = λ r cs ks x y a b.
+          three (by-equation (a .read .coefficients) (b .read .coefficients))
+          (by-equation (a .read .codes) (b .read .codes)) (by-equation (a .answer) (b .answer));
+      open-record = λ r. equal-once (openingTold (openedRecord r));
+      ask = λ r places p. equal-once (askingTold (askedView r places p));
+      column-edges = λ n a b w k. equal-once (edgesTold (edges n a b w k));
+      stopped-column = λ n t a b w k d. equal-once (stoppedTold (stopped n t a b w k d));
+      finished-column = λ n t a b w k. equal-once (finishedTold (finished n t a b w k));
+      join = λ a b. equal-once (answerTold (joined (answerIn a) (answerIn b)));
+      day-change = λ n t d. equal-once (changeTold (dayChange n t d));
+    }
 
--- The record's calls.
-module _ (n : ℕ) (cs : List ℤ) (ks out out₁ out₂ : List ℕ) where
-  pub write-record-once : (r r′ : Writing) → RecordWritten n cs ks out out₁ r → RecordWritten n cs ks out out₂ r′
-      → (r ≡ r′) × (out₁ ≡ out₂)
-  write-record-once r r′ a b = (by-equation (a .answer) (b .answer), by-equation (a .bytes) (b .bytes))
-
-  pub write-record-told-once : (r r′ : ToldBytes) → WriteTold n cs ks out out₁ r → WriteTold n cs ks out out₂ r′
-      → (r ≡ r′) × (out₁ ≡ out₂)
-  write-record-told-once r r′ a b =
-      (by-equation (a .answer) (b .answer), write-record-once _ _ (a .written) (b .written) .1)
-
-module _ (bs : List ℕ) (cs : List ℤ) (ks : List ℕ) (cs₁ cs₂ : List ℤ) (ks₁ ks₂ : List ℕ) where
-  pub read-record-once : (r r′ : Unpacking) → RecordRead bs cs ks cs₁ ks₁ r → RecordRead bs cs ks cs₂ ks₂ r′
-      → (r ≡ r′) × (cs₁ ≡ cs₂) × (ks₁ ≡ ks₂)
-  read-record-once r r′ a b = (
-    by-equation (a .answer) (b .answer),
-    by-equation (a .coefficients) (b .coefficients),
-    by-equation (a .codes) (b .codes),
-  )
-
-  pub read-record-told-once : (r r′ : ToldHours) → ReadTold bs cs ks cs₁ ks₁ r → ReadTold bs cs ks cs₂ ks₂ r′
-      → (r ≡ r′) × (cs₁ ≡ cs₂) × (ks₁ ≡ ks₂)
-  read-record-told-once r r′ a b =
-      let m = read-record-once _ _ (a .read) (b .read) in
-      (by-equation (a .answer) (b .answer), m .1, m .2)
-
-module _ (bs : List ℕ) (places p : ℕ) where
-  pub open-record-once : (r r′ : Opening) → r ≡ openedRecord bs → r′ ≡ openedRecord bs → r ≡ r′
-  open-record-once r r′ a b = by-equation a b
-
-  pub open-record-told-once : (r r′ : ToldRecord) → r ≡ openingTold (openedRecord bs)
-      → r′ ≡ openingTold (openedRecord bs) → r ≡ r′
-  open-record-told-once r r′ a b = by-equation a b
-
-  pub ask-once : (r r′ : Asking) → r ≡ askedView bs places p → r′ ≡ askedView bs places p → r ≡ r′
-  ask-once r r′ a b = by-equation a b
-
-  pub ask-told-once : (r r′ : ToldCoefficient) → r ≡ askingTold (askedView bs places p)
-      → r′ ≡ askingTold (askedView bs places p) → r ≡ r′
-  ask-told-once r r′ a b = by-equation a b
-
-  pub ask-record-once : (r r′ : Asking) → r ≡ askedRecord bs p → r′ ≡ askedRecord bs p → r ≡ r′
-  ask-record-once r r′ a b = by-equation a b
+pub each-call : EachCall
+each-call =
+    record {
+      make = λ n s cs ks x y a b.
+          three (by-equation (a .coefficients) (b .coefficients)) (by-equation (a .codes) (b .codes))
+          (by-equation (a .answer) (b .answer));
+      turn-back = λ n cs ks out x y a b.
+          two (by-equation (a .hours) (b .hours)) (by-equation (a .answer) (b .answer));
+      level = λ n j cs. equal-once (levelPart n j cs);
+      stretch = λ n j lent. equal-once (levelStretch n j lent);
+      examine = examine-once;
+      write-record = λ n cs ks out x y a b.
+          two (by-equation (a .bytes) (b .bytes)) (by-equation (a .answer) (b .answer));
+      read-record = λ r cs ks x y a b.
+          three (by-equation (a .coefficients) (b .coefficients)) (by-equation (a .codes) (b .codes))
+          (by-equation (a .answer) (b .answer));
+      open-record = λ r. equal-once (openedRecord r);
+      ask = λ r places p. equal-once (askedView r places p);
+      ask-record = λ r p. equal-once (askedRecord r p);
+      column-edges = λ n a b w k. equal-once (edges n a b w k);
+      stopped-column = λ n t a b w k d. equal-once (stopped n t a b w k d);
+      finished-column = λ n t a b w k. equal-once (finished n t a b w k);
+      join = λ a b. equal-once (joined a b);
+      day-change = λ n t d. equal-once (dayChange n t d);
+      told = each-told;
+    }

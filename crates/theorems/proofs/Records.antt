@@ -15,17 +15,16 @@ use Rattle.words.specs.declared.Unpacking.{Unpacking}
 use Rattle.words.specs.declared.Opening.{Opening}
 use Rattle.words.specs.declared.Asking.{Asking}
 use Rattle.om3.specs.Series.{Series, levels, P}
-use Rattle.om3.specs.Table.{Table, coefficient, codeOfPlace, tableOf, HasTable, lent}
+use Rattle.om3.specs.Table.{Table, tableOf, HasTable, lent}
 use Rattle.om3.specs.Checks.{Check, passes, refuses, inOrder}
-use Rattle.om3.specs.Refusals.{tableShort, examineTable}
+use Rattle.om3.specs.Refusals.{tableShort, Enough, examineTable}
 use Rattle.om3.specs.Calls.{filled}
 use Rattle.om3.specs.Record.{Bytes, recordSize, recordOf, HasRecord, headerSize, hoursIn, tableIn}
 use Rattle.om3.specs.Record.{writingChecks, writingBy, openingChecks, readingChecks, unpackingBy}
 use Rattle.om3.specs.Record.{openedRecord, askedView, askedRecord}
-use Rattle.om3.proofs.Lists.{map-up-length}
 use Rattle.om3.proofs.Making.{good-some}
 use Rattle.om3.proofs.Examined.{order-parts, first-absent, examine-sound}
-use Rattle.om3.proofs.TableChecks.{Enough, decided, table-room, passed}
+use Rattle.om3.proofs.TableChecks.{decided, table-room, passed}
 use Rattle.om3.proofs.Filled.{filled-first, filled-room}
 use Rattle.om3.proofs.Records.{record-size}
 use Rattle.om3.proofs.RecordsOpened.{opens-formed, asked-unpacked}
@@ -35,6 +34,7 @@ use Rattle.om3.proofs.Demand2 as demand2
 use Rattle.opening.proofs.Asked.{opened-asked}
 use Rattle.writing.specs.Writing.{RecordWritten}
 use Rattle.reading.specs.Reading.{RecordRead}
+use Rattle.theorems.proofs.Calls.{filled-has}
 
 -- A call that answers is one whose checks passed.
 written-passes : (c : Check) (n b : ℕ) → Writing.Bytes b ≡ writingBy c n → (c ≡ passes) × (b ≡ recordSize n)
@@ -173,14 +173,8 @@ module _ (r : List ℕ) (cs : List ℤ) (ks : List ℕ) (cs′ : List ℤ) (ks�
     -- The table that reading left has that series too ..
     left-table : (s : List ℤ) → Series (hoursIn r) s → HasRecord (hoursIn r) s r → HasTable (hoursIn r) s (lent cs′ ks′)
     left-table s series has =
-        let k = hoursIn r in
         let left = read-writes r bytes cs ks room-lent cs′ ks′ (Unpacking.Hours n) done s series has in
-        let p = map-up-length (coefficient (levels k) k s) 0 (P k) in
-        let q = map-up-length (codeOfPlace (levels k) k s) 0 (P k / 2) in
-        record {
-          coefficients = ap (take (P k)) (left .0) ∙ filled-first (tableOf (levels k) k s .coefficients) cs (P k) p;
-          codes = ap (take (P k / 2)) (left .1) ∙ filled-first (tableOf (levels k) k s .codes) ks (P k / 2) q;
-        }
+        filled-has (hoursIn r) s cs cs′ ks ks′ (left .0) (left .1)
 
     -- .. so writing it is taken.
     write-checks : (out : List ℕ) → length r ≤ length out

@@ -1,68 +1,60 @@
--- What is proved of the demands, each in one sentence and one statement, over the definitions of om3/specs, which
--- transcribe document 01. Once says that each call's contract allows one result; Figures has what P is, how bytes hold
--- a number and a table, and document 01's numbers. Assumes nothing.
-use mathlib.Core.Path.{_≡_}
-use mathlib.Core.Bool.{false}
-use mathlib.Core.List.{List}
-use mathlib.Core.Logic.{_↔_}
-use Prim.Native.Nat.{ℕ, _/_, _≤_, _<_}
-use lib.IntN.{ℤ, pos}
-use lib.ListN.{length, getD, take}
-use Rattle.words.specs.declared.Taking.{Taking}
-use Rattle.words.specs.declared.Writing.{Writing}
-use Rattle.words.specs.declared.Unpacking.{Unpacking}
-use Rattle.words.specs.declared.Asking.{Asking}
-use Rattle.om3.specs.Series.{Series, levels, P}
+-- The three demands, each in a sentence and a statement, over the definitions of om3/specs, which transcribe document
+-- 01. Demand 1 lists its calls in Once and Unwritten, demand 3 what it says of ranges in om3's Drawn. What is
+-- proved beside the demands is on the next page, Besides; document 01's numbers are in Figures. Assumes nothing.
+use mathlib.Core.{Path._≡_, Bool.false, List.List, List.map, List.flatMap, Logic._↔_}
+use Prim.Native.Nat.{ℕ, _-_, _≤_}
+use lib.{IntN.ℤ, ListN.length, ListN.take}
+use Rattle.words.specs.declared.{Taking.Taking, Unpacking.Unpacking, Finished.Finished, Stopped.Stopped}
+use Rattle.om3.specs.{Lists.upFrom, Series.Series, Series.levels, Series.hoursFrom, Calls.filled}
 use Rattle.om3.specs.Table.{Table, tableOf, HasTable, lent}
-use Rattle.om3.specs.Refusals.{tableShort}
-use Rattle.om3.specs.Calls.{filled}
-use Rattle.om3.specs.Checks.{passes}
-use Rattle.om3.specs.Record.{Bytes, HasRecord, hoursIn, tableIn, openingChecks, askedRecord}
-use Rattle.om3.proofs.TableChecks.{Enough}
-use Rattle.om3.proofs.Demand2 as demand2
-use Rattle.om3.proofs.RecordsForth as forth
-use Rattle.om3.proofs.RecordsTaken as taken
+use Rattle.om3.specs.{Refusals.tableShort, Refusals.Enough, Record.Bytes, Record.HasRecord, Record.hoursIn}
+use Rattle.om3.specs.{Columns.column, Columns.columnHours, Finished.finished, Stopped.stopped, Looked.lookThrough}
+use Rattle.om3.specs.Drawn.{Drawn, outerAt, innerAt, countOf, finishedCount, Ranged}
+use Rattle.om3.proofs as om3
 use Rattle.making.specs.Making.{Made}
 use Rattle.turning.specs.Turning.{TurnedBack}
-use Rattle.writing.specs.Writing.{RecordWritten}
 use Rattle.reading.specs.Reading.{RecordRead}
-use Rattle.theorems.proofs.Calls as calls
-use Rattle.theorems.proofs.Records as records
+use Rattle.theorems.proofs as theorems
 
--- Demand 2. One table is that of one series only.
-only-series : (n : ℕ) (t : Table) (s u : List ℤ) → Series n s → HasTable n s t → Series n u → HasTable n u t → s ≡ u
-only-series = demand2.only-series
+-- Demand 1. Whatever is given, the contract of each call allows one answer and one content of each lent buffer ..
+each-call : theorems.Once.EachCall
+each-call = theorems.Once.each-call
 
--- So is one record, and one table has one record.
-one-series : (n : ℕ) (r : List ℕ) (s u : List ℤ) → Series n s → HasRecord n s r → Series n u → HasRecord n u r → s ≡ u
-one-series = taken.record-series
+-- .. and a call that is refused writes nothing into the buffers lent to it.
+nothing-written : theorems.Unwritten.NothingWritten
+nothing-written = theorems.Unwritten.nothing-written
 
-one-record : (r q : List ℕ) → Bytes r → Bytes q → openingChecks r ≡ passes → openingChecks q ≡ passes
-    → hoursIn r ≡ hoursIn q → tableIn r ≡ tableIn q → r ≡ q
-one-record = forth.record-one
+-- Demand 2. With room lent, making takes a series, the first n numbers lent, and writes its table, which is OM3's with
+-- document 01's rules for gaps.
+make-writes : (n : ℕ) (s cs : List ℤ) (ks : List ℕ) → Series n (take n s) → tableShort n (lent cs ks) ≡ false
+    → (cs′ : List ℤ) (ks′ : List ℕ) (r : Taking) → Made n s cs ks cs′ ks′ r
+    → (let t = tableOf (levels n) n (take n s) in (r ≡ Taking.Taken) × (cs′ ≡ filled (t .coefficients) cs)
+    × (ks′ ≡ filled (t .codes) ks) × HasTable n (take n s) (lent cs′ ks′))
+make-writes = theorems.Calls.make-writes
+
+-- What making takes is a series, and it has the table that is written.
+module _ (n : ℕ) (s cs cs′ : List ℤ) (ks ks′ : List ℕ) (made : Made n s cs ks cs′ ks′ Taking.Taken) where
+  make-takes : Series n (take n s) × HasTable n (take n s) (lent cs′ ks′)
+  make-takes = theorems.Calls.made-series n s cs cs′ ks ks′ made
+
+  -- Turned back, a table that was made gives each reading and each gap at its own hour.
+  turn-back-after-make : (out out′ : List ℤ) (r : Taking) → n ≤ length out → TurnedBack n cs′ ks′ out out′ r
+      → (r ≡ Taking.Taken) × (out′ ≡ filled (take n s) out)
+  turn-back-after-make = theorems.Calls.turned-back-after n s cs cs′ ks ks′ made
 
 -- With room lent, turning back takes a table exactly if some series of n hours has it ..
 module _ (n : ℕ) (cs : List ℤ) (ks : List ℕ) (out : List ℤ) (room : Enough n cs ks (length out) n)
     (out′ : List ℤ) (r : Taking) (done : TurnedBack n cs ks out out′ r) where
   turn-back-exactly : (r ≡ Taking.Taken) ↔ ((s : List ℤ) × Series n s × HasTable n s (lent cs ks))
-  turn-back-exactly = calls.taken-exactly n cs ks out room out′ r done
+  turn-back-exactly = theorems.Calls.taken-exactly n cs ks out room out′ r done
 
-  -- .. and writes that series, leaving the rest of the buffer.
+  -- .. and writes that series, leaving the rest of the buffer ..
   turn-back-writes : (s : List ℤ) → Series n s → HasTable n s (lent cs ks) → out′ ≡ filled s out
-  turn-back-writes = calls.writes-series n cs ks out room out′ r done
+  turn-back-writes = theorems.Calls.writes-series n cs ks out room out′ r done
 
--- Turning back after making gives each reading and each gap at its own hour.
-turn-back-after-make : (n : ℕ) (s cs cs′ : List ℤ) (ks ks′ : List ℕ)
-    → Made n s cs ks cs′ ks′ Taking.Taken → (out out′ : List ℤ) (r : Taking) → n ≤ length out
-    → TurnedBack n cs′ ks′ out out′ r → (r ≡ Taking.Taken) × (out′ ≡ filled (take n s) out)
-turn-back-after-make = calls.turned-back-after
-
--- Making after turning back gives the same table.
-make-after-turn-back : (n : ℕ) (cs : List ℤ) (ks : List ℕ) (out out′ : List ℤ)
-    → TurnedBack n cs ks out out′ Taking.Taken → (cs₁ : List ℤ) (ks₁ : List ℕ) → tableShort n (lent cs₁ ks₁) ≡ false
-    → (cs₂ : List ℤ) (ks₂ : List ℕ) (r : Taking) → Made n out′ cs₁ ks₁ cs₂ ks₂ r
-    → (r ≡ Taking.Taken) × (cs₂ ≡ filled (take (P n) cs) cs₁) × (ks₂ ≡ filled (take (P n / 2) ks) ks₁)
-make-after-turn-back = calls.made-after
+-- .. which is the only one.
+only-series : (n : ℕ) (t : Table) (s u : List ℤ) → Series n s → HasTable n s t → Series n u → HasTable n u t → s ≡ u
+only-series = om3.Demand2.only-series
 
 -- With room lent, reading takes a list of bytes, as every lent slice of bytes is, exactly if some series of the hours
 -- that it states has it ..
@@ -71,29 +63,37 @@ module _ (r : List ℕ) (bytes : Bytes r) (cs : List ℤ) (ks : List ℕ)
     (done : RecordRead r cs ks cs′ ks′ u) where
   read-exactly : (u ≡ Unpacking.Hours (hoursIn r))
       ↔ ((s : List ℤ) × Series (hoursIn r) s × HasRecord (hoursIn r) s r)
-  read-exactly = records.read-exactly r bytes cs ks room cs′ ks′ u done
+  read-exactly = theorems.Records.read-exactly r bytes cs ks room cs′ ks′ u done
 
-  -- .. and writes the table of that series, leaving the rest of both buffers.
+  -- .. and writes the table of that series, leaving the rest of both buffers ..
   read-writes : (s : List ℤ) → Series (hoursIn r) s → HasRecord (hoursIn r) s r
       → (let t = tableOf (levels (hoursIn r)) (hoursIn r) s in
       (cs′ ≡ filled (t .coefficients) cs) × (ks′ ≡ filled (t .codes) ks))
-  read-writes = records.read-writes r bytes cs ks room cs′ ks′ u done
+  read-writes = theorems.Records.read-writes r bytes cs ks room cs′ ks′ u done
 
--- Reading after writing gives the same table and n.
-read-after-write : (n : ℕ) (cs : List ℤ) (ks out out′ : List ℕ) (b : ℕ)
-    → RecordWritten n cs ks out out′ (Writing.Bytes b)
-    → (cs₁ : List ℤ) (ks₁ : List ℕ) → tableShort n (lent cs₁ ks₁) ≡ false
-    → (cs₂ : List ℤ) (ks₂ : List ℕ) (u : Unpacking) → RecordRead (take b out′) cs₁ ks₁ cs₂ ks₂ u
-    → (u ≡ Unpacking.Hours n) × (cs₂ ≡ filled (take (P n) cs) cs₁) × (ks₂ ≡ filled (take (P n / 2) ks) ks₁)
-read-after-write = records.read-after-write
+-- .. which is the only one.
+one-series : (n : ℕ) (r : List ℕ) (s u : List ℤ) → Series n s → HasRecord n s r → Series n u → HasRecord n u r → s ≡ u
+one-series = om3.RecordsTaken.record-series
 
-module _ (r : List ℕ) (cs : List ℤ) (ks : List ℕ) (cs′ : List ℤ) (ks′ : List ℕ) (n : ℕ)
-    (done : RecordRead r cs ks cs′ ks′ (Unpacking.Hours n)) where
-  -- Writing after reading gives the same record.
-  write-after-read : Bytes r → (out out′ : List ℕ) (w : Writing) → length r ≤ length out
-      → RecordWritten n cs′ ks′ out out′ w → (w ≡ Writing.Bytes (length r)) × (out′ ≡ filled r out)
-  write-after-read = records.write-after-read r cs ks cs′ ks′ n done
+-- Demand 3. The columns of a window hold its hours, each once and in order.
+window-columns : (a b w : ℕ) → 1 ≤ w → a ≤ b
+    → flatMap columnHours (map (column a b w) (upFrom 0 w)) ≡ hoursFrom a (b - a)
+window-columns = om3.Windows.window-columns
 
-  -- A coefficient asked for is the one that was unpacked.
-  asked-is-unpacked : (p : ℕ) → p < P n → askedRecord r p ≡ Asking.Coefficient (getD cs′ p (pos 0))
-  asked-is-unpacked = records.asked-read r cs ks cs′ ks′ n done
+-- From a table that a series has, as one made from readings does, a finished column answers the first, last, lowest and
+-- highest reading as a look through its hours gives them, or that there is none, and the defined count ..
+module _ (n : ℕ) (s : List ℤ) (t : Table) (series : Series n s) (has : HasTable n s t)
+    (a b w k : ℕ) (drawn : Drawn n a b w k) where
+  finished-column : (let x = column a b w k in
+      finished n t a b w k ≡ Finished.Answered (lookThrough n s (columnHours x)) (finishedCount n t x))
+  finished-column = om3.Demand3.finished-drawn n s t series has a b w k drawn
+
+  -- .. and stopped at a depth up to l, an outer range, an inner range and the defined count.
+  stopped-column : (d : ℕ) → d ≤ levels n → (let x = column a b w k in
+      stopped n t a b w k d ≡ Stopped.Ranges (outerAt n t x d) (innerAt n t x d) (countOf n t x d))
+  stopped-column = om3.Demand3.stopped-drawn n s t series has a b w k drawn
+
+  -- The outer range holds every reading of the column, the inner lies between its lowest and highest, a deeper stop
+  -- never widens the outer or narrows the inner, at depth l both agree; counts are at most 4·d − 1, d ≥ 1, and 6·l − 1.
+  column-ranged : Ranged n s t (column a b w k)
+  column-ranged = om3.Demand3.ranged-drawn n s t series has a b w k drawn
