@@ -1,5 +1,6 @@
 //! The vectors: calls with chosen contents and this program's answers to them, in plain numbers that a small program
-//! can read. `crates/vectors` runs those of tables and `crates/record_vectors` those of records.
+//! can read. `crates/vectors` runs those of tables, `crates/record_vectors` those of records, and
+//! `crates/column_vectors` those of columns.
 //!
 //! A call is the number of what is called, the numbers it takes, and its buffers, each its length and then its content.
 //! The answer is the number of the refusal, 0 if the call is taken, its place, the fields of the answer, each 0 on a
@@ -15,6 +16,8 @@ mod made;
 pub mod tables;
 
 pub mod records;
+
+pub mod columns;
 
 /// The greatest number that the programs read.
 pub const GREATEST_NUMBER: u64 = 9_999_999_999_999;
@@ -54,8 +57,12 @@ impl Written {
 }
 
 /// The vectors of each program.
-pub fn written() -> [Written; 2] {
-    [Written::of("vectors", tables::calls()), Written::of("record_vectors", records::calls())]
+pub fn written() -> [Written; 3] {
+    [
+        Written::of("vectors", tables::calls()),
+        Written::of("record_vectors", records::calls()),
+        Written::of("column_vectors", columns::calls()),
+    ]
 }
 
 /// The numbers with which an answer begins: number and place of the refusal, and so many fields.
@@ -98,4 +105,9 @@ fn before(length: usize) -> Vec<i32> {
 /// The same of codes and records.
 fn bytes_before(length: usize) -> Vec<u8> {
     (0..length).map(|k| if length > 100 { 7 } else { 100 + k as u8 }).collect()
+}
+
+/// Whether a set of causes of a refusal, each a bit, has this one.
+fn has(causes: u32, cause: u32) -> bool {
+    causes >> cause & 1 == 1
 }

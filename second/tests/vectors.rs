@@ -1,8 +1,10 @@
-//! The stored vectors of `crates/vectors` and `crates/record_vectors` are what `second vectors` writes.
+//! The stored vectors, of `crates/vectors`, `crates/record_vectors` and `crates/column_vectors`, are what
+//! `second vectors` writes.
 
 use std::collections::{BTreeMap, BTreeSet};
 
-use second::vectors::{records, tables, written, Vector};
+use second::vectors::{columns, records, tables, written, Vector};
+use second::{stopped, turn_back, Column, Shape};
 
 /// The programs that read them have room for so many bytes.
 const MOST_BYTES: usize = 1_048_576;
@@ -35,7 +37,7 @@ fn assert_outcomes(outcomes: &BTreeMap<String, usize>, calls: &[(&str, &[u8])], 
 
 #[test]
 fn every_outcome_of_every_call_is_there() {
-    let [of_tables, of_records] = written().map(|files| files.outcomes);
+    let [of_tables, of_records, of_columns] = written().map(|files| files.outcomes);
     assert_outcomes(&of_tables, &[("make", &[1, 2, 3]), ("turn_back", &[1, 3, 4])], 10);
     let opening = [1, 8, 9, 10, 11];
     let calls: [(&str, &[u8]); 5] = [
@@ -46,6 +48,14 @@ fn every_outcome_of_every_call_is_there() {
         ("ask", &[1, 8, 9, 10, 11, 13]),
     ];
     assert_outcomes(&of_records, &calls, 8);
+    let calls: [(&str, &[u8]); 5] = [
+        ("edges", &[1, 5, 6]),
+        ("stopped", &[1, 3, 4, 5, 6, 7]),
+        ("finished", &[1, 3, 4, 5, 6]),
+        ("join", &[]),
+        ("day_change", &[1, 3, 4, 5]),
+    ];
+    assert_outcomes(&of_columns, &calls, 5);
     let levels: Vec<&str> = of_tables.keys().map(String::as_str).filter(|name| name.starts_with("level")).collect();
     assert_eq!(levels, ["level found", "level of length 0"]);
 }
@@ -109,4 +119,62 @@ fn written_exactly(call: &records::Call) -> Option<Vec<u8>> {
     let mut record = record.clone();
     let bytes = second::write_record(*n, coefficients, codes, &mut record).ok()?;
     (bytes as usize == record.len()).then_some(record)
+}
+
+#[test]
+fn every_depth_is_stopped_at() {
+    let (mut taken, mut too_deep) = (BTreeSet::new(), BTreeSet::new());
+    for call in columns::calls() {
+        match (&call, call.clone().answer().0.as_str()) {
+            (columns::Call::Stopped { table, depth, .. }, "stopped taken") => taken.insert((table.n, *depth)),
+            (columns::Call::Stopped { table, depth, .. }, "stopped refused 7") => too_deep.insert((table.n, *depth)),
+            _ => false,
+        };
+    }
+    for n in [1, 2, 3, 5, 7, 8, 9, 16, 17, 40] {
+        let l = Shape::of(n).unwrap().l;
+        assert!((0..=l).all(|depth| taken.contains(&(n, depth))), "{n}");
+        assert!(too_deep.contains(&(n, l + 1)), "{n}");
+    }
+    assert!(taken.contains(&(16_384, 14)));
+}
+
+/// The damaged tables of which finished columns are asked: those refused at an opened node, those refused on a walk,
+/// and those taken, since nobody looks where they are unsound.
+#[test]
+fn damage_is_met_on_every_way() {
+    let (mut opened, mut walked, mut unseen) = (0, 0, 0);
+    for call in columns::calls() {
+        let columns::Call::Finished { table, column } = &call else {
+            continue;
+        };
+        let columns::Table { n, coefficients, codes } = table;
+        let mut hours = vec![0; 16_384];
+        let sound = turn_back(*n, coefficients, codes, &mut hours).is_ok();
+        let at_depth_l = |l: u64| stopped(*n, coefficients, codes, *column, l);
+        match call.clone().answer().0.as_str() {
+            "finished refused 4" if at_depth_l(Shape::of(*n).unwrap().l).is_err() => opened += 1,
+            "finished refused 4" => walked += 1,
+            "finished taken" if !sound => unseen += 1,
+            _ => {}
+        }
+    }
+    assert!(opened >= 50 && walked >= 20 && unseen >= 50, "{opened} {walked} {unseen}");
+}
+
+#[test]
+fn columns_without_an_hour_and_without_a_reading_are_there() {
+    let (mut no_hour, mut no_reading) = (0, 0);
+    for call in columns::calls() {
+        if let columns::Call::Finished { table, column } = &call {
+            let finished = second::finished(table.n, &table.coefficients, &table.codes, *column);
+            let more_columns_than_hours = |Column { a, b, w, .. }: Column| w > b - a;
+            match finished.map(|finished| (finished.answer, finished.count)) {
+                Ok((None, 0)) => no_hour += usize::from(more_columns_than_hours(*column)),
+                Ok((None, _)) => no_reading += 1,
+                _ => {}
+            }
+        }
+    }
+    assert!(no_hour >= 20 && no_reading >= 20, "{no_hour} {no_reading}");
 }

@@ -103,7 +103,7 @@ pub fn number_at(text: &[u8], at: usize) -> Number {
 }
 
 // A number as grams; 0 if it does not fit.
-fn grams_of(x: Number) -> i32 {
+pub fn grams_of(x: Number) -> i32 {
     let size = x.size;
     if size > 2_147_483_647 {
         return 0;

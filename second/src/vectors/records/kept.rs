@@ -5,7 +5,7 @@ use crate::hours::GAP;
 use crate::random::Random;
 use crate::record::write_record;
 use crate::vectors::made::Made;
-use crate::vectors::GREATEST_NUMBER;
+use crate::vectors::{has, GREATEST_NUMBER};
 
 /// Bytes before the first coefficient.
 const BEFORE_COEFFICIENTS: usize = 7;
@@ -189,11 +189,6 @@ impl Kept {
         let bits = (0..36).map(|_| random.below(8 * self.record.len() as u64) as usize);
         bits.map(|bit| reading(&self.with_bit_flipped(bit), self.p(), self.p() / 2)).collect()
     }
-}
-
-/// Whether a set of causes, each a bit, has this one.
-fn has(causes: u32, cause: u32) -> bool {
-    causes >> cause & 1 == 1
 }
 
 /// The record with causes of opening's refusals: version, n, length, a byte too few, bytes too many (one too many where

@@ -1,0 +1,250 @@
+// Answers the calls on columns that stand on standard input, and writes what each answers: the vectors of the second
+// program, which also wrote what is to come out.
+//
+// A call is the number of what is called, the numbers that it takes, and its buffers, each its length and then its
+// content. All are calls of the boundary.
+//
+//     1 n a b w k                          the edges of a column
+//     2 n a b w k d coefficients codes     a column stopped at depth d
+//     3 n a b w k coefficients codes       a finished column
+//     4 left right                         joining two answers
+//     5 n day coefficients codes           the change of a day
+//
+// An answer is found, which is 0 without a reading, the hours of the first reading and of the last, their grams, low
+// and high.
+//
+// What is written is the number of the refusal, 0 if the call was taken, its place, and what the call tells: the
+// column's first hour and the hour after its last; both ranges and the count; the count, and in a line of its own the
+// answer; found and the grams. Joining tells the answer alone.
+//
+// What the calls answer is stated and proved where they stand. As in `lines`, which reads and writes the numbers, the
+// contracts here say no more than safety needs.
+use sagivelume::ToldAnswer;
+
+// A column of the input: the hours of the series, the window, its columns and the number of this one; and where the
+// number after it begins.
+struct Asked {
+    n: usize,
+    a: usize,
+    b: usize,
+    w: usize,
+    column: usize,
+    next: usize,
+}
+
+// An answer of the input, and where the number after it begins.
+struct Given {
+    answer: ToldAnswer,
+    next: usize,
+}
+
+// The column whose n begins at `at`.
+fn column_at(text: &[u8], at: usize) -> Asked {
+    let hours = lines::number_at(text, at);
+    let first = lines::number_at(text, hours.next);
+    let after = lines::number_at(text, first.next);
+    let columns = lines::number_at(text, after.next);
+    let number = lines::number_at(text, columns.next);
+    Asked {
+        n: hours.size as usize,
+        a: first.size as usize,
+        b: after.size as usize,
+        w: columns.size as usize,
+        column: number.size as usize,
+        next: number.next,
+    }
+}
+
+// The answer that begins at `at`.
+fn answer_at(text: &[u8], at: usize) -> Given {
+    let found = lines::number_at(text, at);
+    let first_hour = lines::number_at(text, found.next);
+    let last_hour = lines::number_at(text, first_hour.next);
+    let first = lines::number_at(text, last_hour.next);
+    let last = lines::number_at(text, first.next);
+    let low = lines::number_at(text, last.next);
+    let high = lines::number_at(text, low.next);
+    let next = high.next;
+    let answer = ToldAnswer {
+        found: found.size as usize,
+        first_hour: first_hour.size as usize,
+        last_hour: last_hour.size as usize,
+        first: lines::grams_of(first),
+        last: lines::grams_of(last),
+        low: lines::grams_of(low),
+        high: lines::grams_of(high),
+    };
+    Given { answer, next }
+}
+
+// Writes an answer.
+fn show_answer(told: ToldAnswer) {
+    lines::print_head(told.found, told.first_hour);
+    lines::print_more(told.last_hour);
+    lines::print_more_grams(told.first);
+    lines::print_more_grams(told.last);
+    lines::print_more_grams(told.low);
+    lines::print_more_grams(told.high);
+    lines::print_end();
+}
+
+// Asks for the edges of a column and writes the answer.
+fn show_edges(asked: Asked) {
+    let told = sagivelume::sagivelume_edges(asked.n, asked.a, asked.b, asked.w, asked.column);
+    lines::print_head(told.number, told.place);
+    lines::print_more(told.from);
+    lines::print_more(told.upto);
+    lines::print_end();
+}
+
+// Stops a column at a depth and writes the answer.
+fn show_stopped(coefficients: &[i32], codes: &[u8], asked: Asked, depth: usize) {
+    let told = sagivelume::sagivelume_stopped(
+        asked.n,
+        coefficients,
+        codes,
+        asked.a,
+        asked.b,
+        asked.w,
+        asked.column,
+        depth,
+    );
+    lines::print_head(told.number, told.place);
+    lines::print_more_grams(told.outer_low);
+    lines::print_more_grams(told.outer_high);
+    lines::print_more_grams(told.inner_low);
+    lines::print_more_grams(told.inner_high);
+    lines::print_more(told.count);
+    lines::print_end();
+}
+
+// Finishes a column and writes the answer.
+fn show_finished(coefficients: &[i32], codes: &[u8], asked: Asked) {
+    let told = sagivelume::sagivelume_finished(
+        asked.n,
+        coefficients,
+        codes,
+        asked.a,
+        asked.b,
+        asked.w,
+        asked.column,
+    );
+    lines::print_head(told.number, told.place);
+    lines::print_more(told.count);
+    lines::print_end();
+    let answer = told.answer;
+    show_answer(answer);
+}
+
+// Asks for the change of a day and writes the answer.
+fn show_day_change(n: usize, coefficients: &[i32], codes: &[u8], day: usize) {
+    let told = sagivelume::sagivelume_day_change(n, coefficients, codes, day);
+    lines::print_head(told.number, told.place);
+    lines::print_more(told.found);
+    lines::print_more_grams(told.grams);
+    lines::print_end();
+}
+
+// A call for a column's edges, whose n begins at `at`. Tells where the next call begins.
+fn answer_edges(text: &[u8], at: usize) -> usize {
+    let asked = column_at(text, at);
+    let next = asked.next;
+    show_edges(asked);
+    next
+}
+
+// A call of stopping a column, whose n begins at `at`. Tells where the next call begins.
+fn answer_stopped(text: &[u8], at: usize) -> usize {
+    let asked = column_at(text, at);
+    let deep = lines::number_at(text, asked.next);
+    let depth = deep.size as usize;
+    let mut coefficients = lines::no_grams();
+    let first = lines::lend_grams(text, deep.next, &mut coefficients);
+    let c = first.length;
+    let mut codes = lines::no_codes();
+    let second = lines::lend_bytes(text, first.next, &mut codes);
+    let k = second.length;
+    show_stopped(&coefficients[..c], &codes[..k], asked, depth);
+    second.next
+}
+
+// A call of finishing a column, whose n begins at `at`. Tells where the next call begins.
+fn answer_finished(text: &[u8], at: usize) -> usize {
+    let asked = column_at(text, at);
+    let mut coefficients = lines::no_grams();
+    let first = lines::lend_grams(text, asked.next, &mut coefficients);
+    let c = first.length;
+    let mut codes = lines::no_codes();
+    let second = lines::lend_bytes(text, first.next, &mut codes);
+    let k = second.length;
+    show_finished(&coefficients[..c], &codes[..k], asked);
+    second.next
+}
+
+// A call of joining, whose left answer begins at `at`. Tells where the next call begins.
+fn answer_join(text: &[u8], at: usize) -> usize {
+    let first = answer_at(text, at);
+    let second = answer_at(text, first.next);
+    let next = second.next;
+    let left = first.answer;
+    let right = second.answer;
+    show_answer(sagivelume::sagivelume_join(left, right));
+    next
+}
+
+// A call for the change of a day, whose n begins at `at`. Tells where the next call begins.
+fn answer_day_change(text: &[u8], at: usize) -> usize {
+    let hours = lines::number_at(text, at);
+    let asked = lines::number_at(text, hours.next);
+    let n = hours.size as usize;
+    let day = asked.size as usize;
+    let mut coefficients = lines::no_grams();
+    let first = lines::lend_grams(text, asked.next, &mut coefficients);
+    let c = first.length;
+    let mut codes = lines::no_codes();
+    let second = lines::lend_bytes(text, first.next, &mut codes);
+    let k = second.length;
+    show_day_change(n, &coefficients[..c], &codes[..k], day);
+    second.next
+}
+
+// Answers the call that begins at `at`, and tells where the next one begins. A number that begins no call is passed
+// over.
+fn answer(text: &[u8], at: usize) -> usize {
+    let call = lines::number_at(text, at);
+    let what = call.size;
+    if what == 1 {
+        return answer_edges(text, call.next);
+    }
+    if what == 2 {
+        return answer_stopped(text, call.next);
+    }
+    if what == 3 {
+        return answer_finished(text, call.next);
+    }
+    if what == 4 {
+        return answer_join(text, call.next);
+    }
+    if what == 5 {
+        return answer_day_change(text, call.next);
+    }
+    call.next
+}
+
+// Answers one call after the other, as long as there is more.
+fn answer_all(text: &[u8]) {
+    let mut at = 0;
+    while at < text.len() {
+        let next = answer(text, at);
+        if next <= at {
+            return;
+        }
+        at = next;
+    }
+}
+
+fn main() {
+    let mut text = lines::no_text();
+    let n = io::read_full(0, &mut text);
+    answer_all(&text[..n]);
+}
