@@ -1,12 +1,16 @@
 //! The store's calls in plain Rust, as one would write them first: the yardstick for the proved store's speed.
 //!
 //! The signatures, buffers, checks and refusals are those of the proved store. Each call goes down the nodes by calling
-//! itself on both halves. Only reading a record allocates, and nothing is tuned but that one function is inlined.
+//! itself on both halves. Only reading a record allocates, and nothing is tuned but that a few small functions are
+//! inlined.
 
+mod column;
 mod record;
 
 use std::fmt;
 
+pub use column::{day_change, edges, finished, join, stopped};
+pub use column::{Answer, Column, Finished, Reading, Stopped, Summary};
 pub use record::{read_record, write_record};
 
 /// A series has at most this many hours.
@@ -36,6 +40,9 @@ pub struct Refusal {
 impl Refusal {
     const SERIES: Refusal = Refusal { number: 1, place: 0 };
     const SHORT_BUFFER: Refusal = Refusal { number: 3, place: 0 };
+    const WINDOW: Refusal = Refusal { number: 5, place: 0 };
+    const COLUMN: Refusal = Refusal { number: 6, place: 0 };
+    const DEPTH: Refusal = Refusal { number: 7, place: 0 };
     const CUT_SHORT: Refusal = Refusal { number: 8, place: 0 };
     const VERSION: Refusal = Refusal { number: 9, place: 0 };
     const LENGTH_FIELD: Refusal = Refusal { number: 10, place: 0 };
@@ -57,10 +64,12 @@ impl fmt::Display for Refusal {
 }
 
 /// Low and high of a node that has a reading.
-#[derive(Clone, Copy)]
-struct LowHigh {
-    low: i32,
-    high: i32,
+#[derive(Clone, Copy, Debug, PartialEq, Eq)]
+pub struct LowHigh {
+    /// The least reading.
+    pub low: i32,
+    /// The greatest reading.
+    pub high: i32,
 }
 
 impl LowHigh {
@@ -213,8 +222,7 @@ impl Table<'_> {
     fn examine_below(&self, node: Node, value: Value) -> Result<(), Refusal> {
         if node.is_pair() {
             let (first, second) = self.hours_of_pair(node, value).ok_or(Refusal::unsound(node.number))?;
-            let gap_from_n_on = |hour: usize, held: i32| hour < self.n || held == GAP;
-            if !gap_from_n_on(node.first, first) || !gap_from_n_on(node.first + 1, second) {
+            if !self.gap_from_n_on(node.first, first) || !self.gap_from_n_on(node.first + 1, second) {
                 return Err(Refusal::unsound(node.number));
             }
             return Ok(());
@@ -223,6 +231,11 @@ impl Table<'_> {
         let (left, right) = node.halves();
         self.examine_below(left, left_value)?;
         self.examine_below(right, right_value)
+    }
+
+    /// Whether an hour may hold this: from n on it is a gap.
+    fn gap_from_n_on(&self, hour: usize, held: i32) -> bool {
+        hour < self.n || held == GAP
     }
 
     /// Writes the hours of a node of a sound table.

@@ -1,7 +1,9 @@
 //! Measures making, turning back, writing a record and reading it: nanoseconds a reading for the proved store and for
-//! plain Rust, side by side, and for records also megabytes a second.
+//! plain Rust, side by side, and for records also megabytes a second. Then columns: nanoseconds a column.
 //!
 //! Before anything is timed, both have to give what the second program gives. Times are printed and never judged.
+
+mod drawing;
 
 use std::hint::black_box;
 use std::time::{Duration, Instant};
@@ -15,7 +17,7 @@ const N: usize = MOST_HOURS;
 const RECORD: usize = 7 + 3 * N + N / 2;
 /// So many of a hundred hours are gaps.
 const GAPS_IN_A_HUNDRED: u64 = 3;
-/// How long is measured, all calls together.
+/// How long is measured: the calls on all hours together, and columns.
 const MEASURED: Duration = Duration::from_secs(3);
 /// Rounds before the first that counts.
 const WARMING_UP: usize = 20;
@@ -246,4 +248,6 @@ fn main() {
     println!("{HEAD}\n{LINE}");
     println!("{}", row("write record", &proved.write_record, &plain.write_record, megabytes_a_second));
     println!("{}", row("read record", &proved.read_record, &plain.read_record, megabytes_a_second));
+    println!();
+    drawing::measure(&of_proved);
 }

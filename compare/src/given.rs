@@ -34,6 +34,19 @@ impl Head {
     pub fn answering<T: fmt::Display, const FIELDS: usize>(taken: Result<[T; FIELDS], Refusal>) -> Head {
         taken.map_or_else(Head::Refused, |fields| Head::Taken(fields.iter().map(T::to_string).collect()))
     }
+
+    /// The fields of a call that was taken, none of one that was not.
+    pub fn fields(&self) -> &[String] {
+        match self {
+            Head::Taken(fields) => fields,
+            _ => &[],
+        }
+    }
+}
+
+/// A field that may be absent.
+pub fn field<T: fmt::Display>(shown: Option<T>) -> String {
+    shown.map_or_else(|| String::from("-"), |shown| shown.to_string())
 }
 
 impl fmt::Display for Head {

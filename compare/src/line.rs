@@ -29,6 +29,13 @@ impl Line {
         self
     }
 
+    /// A buffer of fields, each as it is.
+    pub fn fields(mut self, fields: &[String]) -> Line {
+        self.push('|');
+        fields.iter().for_each(|field| self.push(field));
+        self
+    }
+
     /// The line itself.
     pub fn end(self) -> String {
         self.0
@@ -48,5 +55,10 @@ mod tests {
         let line = Line::call("make").number(2).buffer(&[7, 7]).buffer(&[0, 0, 5]).buffer::<u8>(&[]).end();
         assert_eq!(line, "make 2 | 7*2 | 0*2 5 |");
         assert_eq!(second::answer::answer(line.as_bytes()), "refused 3 at 0 | 0 0 5 |");
+
+        let fields = ["0", "7", "0", "7", "7", "7"].map(String::from);
+        let line = Line::call("join").fields(&fields).fields(&["-"; 6].map(String::from)).end();
+        assert_eq!(line, "join | 0 7 0 7 7 7 | - - - - - -");
+        assert_eq!(second::answer::answer(line.as_bytes()), "taken 0 7 0 7 7 7");
     }
 }

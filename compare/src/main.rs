@@ -1,4 +1,5 @@
-//! Compares the proved store with the second program: edge calls first, then drawn ones, a fixed number of each kind.
+//! Compares the proved store with the second program: edge calls first, then drawn ones, a fixed number of each kind. A
+//! drawn column brings the columns after it.
 //!
 //! ```text
 //! compare [--seed N] [--calls N]
@@ -9,8 +10,10 @@
 //! line ends it with 2.
 
 mod calls;
+mod columns;
 mod given;
 mod lent;
+mod lent_tables;
 mod line;
 mod numbers;
 mod records;
@@ -19,7 +22,9 @@ mod tables;
 
 use std::process::ExitCode;
 
-use calls::{compare, Ask, AskView, Difference, Level, Make, Open, ReadRecord, Tally, TurnBack, WriteRecord};
+use calls::{compare, Difference, Tally};
+use calls::{Ask, AskView, Level, Make, Open, ReadRecord, TurnBack, WriteRecord};
+use calls::{DayChange, Edges, FinishedColumn, Join, StoppedAt};
 
 const USAGE: &str = "usage: compare [--seed N] [--calls N]";
 
@@ -59,6 +64,11 @@ impl Run {
             compare::<Open>(self.seed, self.calls)?,
             compare::<Ask>(self.seed, self.calls)?,
             compare::<AskView>(self.seed, self.calls)?,
+            compare::<Edges>(self.seed, self.calls)?,
+            compare::<StoppedAt>(self.seed, self.calls)?,
+            compare::<FinishedColumn>(self.seed, self.calls)?,
+            compare::<Join>(self.seed, self.calls)?,
+            compare::<DayChange>(self.seed, self.calls)?,
         ])
     }
 }

@@ -77,6 +77,26 @@ fn damage(random: &mut Random, table: &mut Table) {
     }
 }
 
+/// Changes what a table holds of one node, 0 standing for the root values, mostly so that it is unsound.
+pub fn damage_node(random: &mut Random, table: &mut Table, node: usize) {
+    let pairs_from = table.codes.len();
+    if node == 0 {
+        return damage_root(random, table);
+    }
+    if node >= pairs_from {
+        table.codes[node - pairs_from] = random.one_of(&[0, 1, 2, 3, 4, 5, 255]);
+        return;
+    }
+    let details = &mut table.coefficients[2 * node..][..2];
+    match random.below(5) {
+        0 => details[0] = random.one_of(&[-2_000_001, i32::MIN]),
+        1 => details[1] = random.one_of(&[GAP + 1, i32::MAX]),
+        2 => details[random.below(2) as usize] = draw_mark(random),
+        3 => details.fill(draw_mark(random)),
+        _ => details.fill(random.one_of(&[-2_000_000, 2_000_000])),
+    }
+}
+
 /// Low over high, a single mark, a wrong mark, or out of the range of readings.
 fn damage_root(random: &mut Random, table: &mut Table) {
     let root = &mut table.coefficients[..2];

@@ -16,6 +16,11 @@
 //! sagivelume::turn_back(7, &coefficients, &codes, &mut hours)?;
 //! assert_eq!(hours, readings);
 //!
+//! // Column 1 of the whole series drawn in three: its first reading, its last, the least and the greatest.
+//! let column = sagivelume::Column { a: 0, b: 7, w: 3, k: 1 };
+//! let drawn = sagivelume::finished(7, &coefficients, &codes, column)?.answer.expect("readings");
+//! assert_eq!((drawn.first.grams, drawn.last.grams, drawn.low, drawn.high), (40_900, 32_760, 32_760, 40_900));
+//!
 //! // Its house record: 7 bytes, then three for each coefficient, then the codes.
 //! let mut record = [0; 35];
 //! assert_eq!(sagivelume::write_record(7, &coefficients, &codes, &mut record)?, 35);
@@ -23,12 +28,17 @@
 //! # Ok::<(), sagivelume::Refusal>(())
 //! ```
 
+mod column;
+mod finished;
 #[allow(unsafe_code)]
 mod linked;
 mod record;
 mod refusal;
 mod table;
+mod told;
 
+pub use column::{edges, stopped, Column, LowHigh, Stopped};
+pub use finished::{day_change, finished, join, Answer, Finished, Reading, Summary};
 pub use record::{ask, open_record, read_record, write_record, Record};
 pub use refusal::Refusal;
 pub use table::{level, make, turn_back, GAP};

@@ -3,106 +3,12 @@
 //! A slice passes as its pointer, then its length. An empty slice passes Rust's pointer for it, which is aligned and
 //! not null. Each function below hands the parts of its slices on and gives back what the store gives, unjudged.
 
-use crate::refusal::Refusal;
-
-/// How a call ended: number 0 if it was taken, else the number of the refusal, with its place.
-#[repr(C)]
-pub struct Told {
-    number: usize,
-    place: usize,
-}
-
-impl Told {
-    /// Taken, or the refusal.
-    pub fn taken(self) -> Result<(), Refusal> {
-        match self.number {
-            0 => Ok(()),
-            number => Err(Refusal {
-                number: u8::try_from(number).expect("refusals are numbered 1 to 13"),
-                place: self.place,
-            }),
-        }
-    }
-}
-
-/// How writing a record ended, with the number of its bytes.
-#[repr(C)]
-pub struct ToldBytes {
-    number: usize,
-    place: usize,
-    bytes: usize,
-}
-
-impl ToldBytes {
-    /// The number of bytes, or the refusal.
-    pub fn taken(self) -> Result<usize, Refusal> {
-        let ToldBytes { number, place, bytes } = self;
-        Told { number, place }.taken().map(|()| bytes)
-    }
-}
-
-/// How reading a record ended, with the hours of its series.
-#[repr(C)]
-pub struct ToldHours {
-    number: usize,
-    place: usize,
-    hours: usize,
-}
-
-impl ToldHours {
-    /// The hours, or the refusal.
-    pub fn taken(self) -> Result<usize, Refusal> {
-        let ToldHours { number, place, hours } = self;
-        Told { number, place }.taken().map(|()| hours)
-    }
-}
-
-/// How opening a record ended, with the hours of its series and the places of its coefficients.
-#[repr(C)]
-pub struct ToldRecord {
-    number: usize,
-    place: usize,
-    hours: usize,
-    places: usize,
-}
-
-impl ToldRecord {
-    /// Hours and places, or the refusal.
-    pub fn taken(self) -> Result<(usize, usize), Refusal> {
-        let ToldRecord { number, place, hours, places } = self;
-        Told { number, place }.taken().map(|()| (hours, places))
-    }
-}
-
-/// How asking for a coefficient ended, with the coefficient.
-#[repr(C)]
-pub struct ToldCoefficient {
-    number: usize,
-    place: usize,
-    coefficient: i32,
-}
-
-impl ToldCoefficient {
-    /// The coefficient, or the refusal.
-    pub fn taken(self) -> Result<i32, Refusal> {
-        let ToldCoefficient { number, place, coefficient } = self;
-        Told { number, place }.taken().map(|()| coefficient)
-    }
-}
-
-/// A part of a lent slice.
-#[repr(C)]
-pub struct Places {
-    start: usize,
-    length: usize,
-}
-
-impl Places {
-    /// The part itself.
-    pub fn of<T>(self, lent: &[T]) -> &[T] {
-        &lent[self.start..][..self.length]
-    }
-}
+use crate::column::Column;
+use crate::finished::Answer;
+use crate::told::{
+    Places, Told, ToldAnswer, ToldBytes, ToldChange, ToldCoefficient, ToldColumn, ToldFinished, ToldHours,
+    ToldRanges, ToldRecord,
+};
 
 // What every call must keep: each pointer comes with the length of its own live slice, and a slice to be written, which
 // passes as `*mut`, is lent to that call alone.
@@ -155,6 +61,44 @@ extern "C" {
     fn sagivelume_open_record(bytes: *const u8, bytes_length: usize) -> ToldRecord;
 
     fn sagivelume_ask(bytes: *const u8, bytes_length: usize, places: usize, place: usize) -> ToldCoefficient;
+
+    fn sagivelume_edges(n: usize, a: usize, b: usize, w: usize, column: usize) -> ToldColumn;
+
+    fn sagivelume_stopped(
+        n: usize,
+        coefficients: *const i32,
+        coefficients_length: usize,
+        codes: *const u8,
+        codes_length: usize,
+        a: usize,
+        b: usize,
+        w: usize,
+        column: usize,
+        depth: usize,
+    ) -> ToldRanges;
+
+    fn sagivelume_finished(
+        n: usize,
+        coefficients: *const i32,
+        coefficients_length: usize,
+        codes: *const u8,
+        codes_length: usize,
+        a: usize,
+        b: usize,
+        w: usize,
+        column: usize,
+    ) -> ToldFinished;
+
+    fn sagivelume_join(left: ToldAnswer, right: ToldAnswer) -> ToldAnswer;
+
+    fn sagivelume_day_change(
+        n: usize,
+        coefficients: *const i32,
+        coefficients_length: usize,
+        codes: *const u8,
+        codes_length: usize,
+        day: usize,
+    ) -> ToldChange;
 }
 
 /// Makes a table.
@@ -236,4 +180,63 @@ pub fn open_record(bytes: &[u8]) -> ToldRecord {
 pub fn ask(bytes: &[u8], places: usize, place: usize) -> ToldCoefficient {
     // SAFETY: as at the `extern` block: one live slice with its length, which is only read.
     unsafe { sagivelume_ask(bytes.as_ptr(), bytes.len(), places, place) }
+}
+
+/// The edges of a column.
+pub fn edges(n: usize, Column { a, b, w, k }: Column) -> ToldColumn {
+    // SAFETY: as at the `extern` block: numbers alone, and no slice.
+    unsafe { sagivelume_edges(n, a, b, w, k) }
+}
+
+/// The answer of a column at a depth.
+pub fn stopped(n: usize, coefficients: &[i32], codes: &[u8], column: Column, depth: usize) -> ToldRanges {
+    let Column { a, b, w, k } = column;
+    // SAFETY: as at the `extern` block: two live slices with their lengths, which are only read.
+    unsafe {
+        sagivelume_stopped(
+            n,
+            coefficients.as_ptr(),
+            coefficients.len(),
+            codes.as_ptr(),
+            codes.len(),
+            a,
+            b,
+            w,
+            k,
+            depth,
+        )
+    }
+}
+
+/// The finished answer of a column.
+pub fn finished(n: usize, coefficients: &[i32], codes: &[u8], column: Column) -> ToldFinished {
+    let Column { a, b, w, k } = column;
+    // SAFETY: as at the `extern` block: two live slices with their lengths, which are only read.
+    unsafe {
+        sagivelume_finished(
+            n,
+            coefficients.as_ptr(),
+            coefficients.len(),
+            codes.as_ptr(),
+            codes.len(),
+            a,
+            b,
+            w,
+            k,
+        )
+    }
+}
+
+/// Joins two answers.
+pub fn join(left: Answer, right: Answer) -> ToldAnswer {
+    // SAFETY: as at the `extern` block: numbers alone, and no slice.
+    unsafe { sagivelume_join(ToldAnswer::of(left), ToldAnswer::of(right)) }
+}
+
+/// The change of a day.
+pub fn day_change(n: usize, coefficients: &[i32], codes: &[u8], day: usize) -> ToldChange {
+    // SAFETY: as at the `extern` block: two live slices with their lengths, which are only read.
+    unsafe {
+        sagivelume_day_change(n, coefficients.as_ptr(), coefficients.len(), codes.as_ptr(), codes.len(), day)
+    }
 }

@@ -1,10 +1,21 @@
-//! Document 01's numbers for tables and records, and buffers that are empty or longer than needed.
+//! Document 01's numbers for tables, records and columns, and buffers that are empty or longer than needed.
 
-use sagivelume::{ask, level, make, open_record, read_record, turn_back, write_record, Refusal, GAP};
+use sagivelume::{ask, open_record, read_record, write_record};
+use sagivelume::{
+    day_change, edges, finished, join, stopped, Column, Finished, LowHigh, Reading, Stopped, Summary,
+};
+use sagivelume::{level, make, turn_back, Refusal, GAP};
 
 fn refused<T>(number: u8, place: usize) -> Result<T, Refusal> {
     Err(Refusal { number, place })
 }
+
+/// The table of the printer's seven hours.
+const SEVEN_COEFFICIENTS: [i32; 8] = [32_760, 41_350, 8_140, 8_560, 300, 450, 2_000_001, 2_000_001];
+const SEVEN_CODES: [u8; 4] = [1, 3, 1, 4];
+
+/// The first hour of a series, in one column.
+const WHOLE_HOUR: Column = Column { a: 0, b: 1, w: 1, k: 0 };
 
 /// The table of some readings has these coefficients and codes, and turned back gives the readings.
 fn has_table(readings: &[i32], coefficients: &[i32], codes: &[u8]) {
@@ -24,11 +35,7 @@ fn the_numbers_to_hold_to() {
     has_table(&[7, 9], &[7, 9], &[1]);
     has_table(&[9, 7], &[7, 9], &[0]);
     has_table(&[GAP; 3], &[GAP; 4], &[4, 4]);
-    has_table(
-        &[41_200, 41_350, GAP, 40_900, 32_760, 32_790, GAP],
-        &[32_760, 41_350, 8_140, 8_560, 300, 450, 2_000_001, 2_000_001],
-        &[1, 3, 1, 4],
-    );
+    has_table(&[41_200, 41_350, GAP, 40_900, 32_760, 32_790, GAP], &SEVEN_COEFFICIENTS, &SEVEN_CODES);
     has_table(
         &[-1_000_000, -1_000_000, 1_000_000, 1_000_000],
         &[-1_000_000, 1_000_000, -2_000_000, -2_000_000],
@@ -67,6 +74,9 @@ fn empty_buffers_are_lent_like_any_other() {
         assert_eq!(turn_back(n, &[], &[], &mut []), refused(number, 0));
         assert_eq!(level(n, 0, &[]), []);
         assert_eq!(write_record(n, &[], &[], &mut []), refused(number, 0));
+        assert_eq!(stopped(n, &[], &[], WHOLE_HOUR, 0), refused(number, 0));
+        assert_eq!(finished(n, &[], &[], WHOLE_HOUR), refused(number, 0));
+        assert_eq!(day_change(n, &[], &[], 0), refused(number, 0));
         assert_eq!(ask(&[], n, 0), refused(if n == 0 { 13 } else { 8 }, 0));
     }
     assert_eq!(read_record(&[], &mut [], &mut []), refused(8, 0));
@@ -93,9 +103,9 @@ const SEVEN_HOURS: [u8; 35] = [
 
 #[test]
 fn a_record_byte_by_byte() {
-    let table = [32_760, 41_350, 8_140, 8_560, 300, 450, 2_000_001, 2_000_001];
+    let table = SEVEN_COEFFICIENTS;
     let mut bytes = [77; 36];
-    assert_eq!(write_record(7, &table, &[1, 3, 1, 4], &mut bytes), Ok(35));
+    assert_eq!(write_record(7, &table, &SEVEN_CODES, &mut bytes), Ok(35));
     assert_eq!((&bytes[..35], bytes[35]), (&SEVEN_HOURS[..], 77));
 
     let (mut coefficients, mut codes) = ([71; 9], [72; 5]);
@@ -183,4 +193,116 @@ fn refused_records_write_nothing() {
     assert_eq!(read_record(&SEVEN_HOURS, &mut coefficients[..7], &mut codes), refused(3, 0));
     assert_eq!(read_record(&SEVEN_HOURS, &mut coefficients, &mut codes[..3]), refused(3, 0));
     assert_eq!((coefficients, codes), ([71; 8], [72; 4]));
+}
+
+/// The table of some readings.
+fn table_of(readings: &[i32]) -> (Vec<i32>, Vec<u8>) {
+    let p = readings.len().next_power_of_two().max(2);
+    let (mut coefficients, mut codes) = (vec![0; p], vec![0; p / 2]);
+    assert_eq!(make(readings.len(), readings, &mut coefficients, &mut codes), Ok(()));
+    (coefficients, codes)
+}
+
+/// A reading of an hour.
+fn at(hour: usize, grams: i32) -> Reading {
+    Reading { hour, grams }
+}
+
+/// Column k of the printer's seven hours in three columns.
+fn third(k: usize) -> Column {
+    Column { a: 0, b: 7, w: 3, k }
+}
+
+#[test]
+fn the_printers_three_columns() {
+    let summaries = [
+        Summary { first: at(0, 41_200), last: at(1, 41_350), low: 41_200, high: 41_350 },
+        Summary { first: at(3, 40_900), last: at(4, 32_760), low: 32_760, high: 40_900 },
+        Summary { first: at(5, 32_790), last: at(5, 32_790), low: 32_790, high: 32_790 },
+    ];
+    for (k, (summary, count)) in summaries.into_iter().zip([9, 4 * 3 - 1, 7]).enumerate() {
+        let answered = finished(7, &SEVEN_COEFFICIENTS, &SEVEN_CODES, third(k));
+        assert_eq!(answered, Ok(Finished { answer: Some(summary), count }));
+    }
+    let [left, middle, right] = summaries.map(Some);
+    let whole = finished(7, &SEVEN_COEFFICIENTS, &SEVEN_CODES, Column { w: 1, ..third(0) }).expect("taken");
+    assert_eq!(join(join(left, middle), right), whole.answer);
+}
+
+#[test]
+fn a_column_at_each_depth() {
+    let range = |low, high| Some(LowHigh { low, high });
+    let (narrow, wide) = (range(41_200, 41_350), range(40_900, 41_350));
+    let at_depths = [
+        Stopped { outer: range(32_760, 41_350), inner: None, count: 1 },
+        Stopped { outer: wide, inner: None, count: 3 },
+        Stopped { outer: wide, inner: narrow, count: 5 },
+        Stopped { outer: narrow, inner: narrow, count: 7 },
+    ];
+    for (d, answer) in at_depths.into_iter().enumerate() {
+        assert_eq!(stopped(7, &SEVEN_COEFFICIENTS, &SEVEN_CODES, third(0), d), Ok(answer));
+    }
+    assert_eq!(stopped(7, &SEVEN_COEFFICIENTS, &SEVEN_CODES, third(0), 4), refused(7, 0));
+}
+
+#[test]
+fn columns_without_an_hour() {
+    let fourth = |k| Column { a: 0, b: 2, w: 4, k };
+    for (k, hours) in [0..1, 1..1, 1..2, 2..2].into_iter().enumerate() {
+        assert_eq!(edges(2, fourth(k)), Ok(hours));
+    }
+    // The table is not examined: it is unsound at its root values.
+    for k in [1, 3] {
+        let nothing = Stopped { outer: None, inner: None, count: 0 };
+        assert_eq!(stopped(2, &[5, 4], &[9], fourth(k), 1), Ok(nothing));
+        assert_eq!(finished(2, &[5, 4], &[9], fourth(k)), Ok(Finished { answer: None, count: 0 }));
+    }
+    assert_eq!(finished(2, &[5, 4], &[9], fourth(0)), refused(4, 0));
+}
+
+#[test]
+fn the_greatest_n_w_and_d() {
+    let most_columns = |w, k| Column { a: 0, b: 16_384, w, k };
+    assert_eq!(edges(16_384, most_columns(4_096, 4_095)), Ok(16_380..16_384));
+    assert_eq!(edges(16_384, most_columns(4_096, 4_096)), refused(6, 0));
+    assert_eq!(edges(16_384, most_columns(4_097, 0)), refused(6, 0));
+    assert_eq!(edges(16_385, most_columns(4_096, 0)), refused(1, 0));
+    assert_eq!(edges(16_383, most_columns(4_096, 0)), refused(5, 0));
+
+    for l in 1..=14 {
+        let n = 1 << l;
+        let (coefficients, codes) = table_of(&vec![7; n]);
+        let at_depth = |d| stopped(n, &coefficients, &codes, Column { a: 0, b: n, w: 1, k: 0 }, d);
+        assert!(at_depth(l).is_ok());
+        assert_eq!(at_depth(l + 1), refused(7, 0));
+        assert_eq!(at_depth(usize::MAX), refused(7, 0));
+    }
+}
+
+#[test]
+fn day_changes() {
+    let mut readings: Vec<i32> = (0..24).map(|hour| 40_000 + hour * 600 / 23).collect();
+    readings.extend([41_000, 41_100]);
+    let (coefficients, codes) = table_of(&readings);
+    let change = |day| day_change(26, &coefficients, &codes, day);
+    assert_eq!([change(0), change(1)], [Ok(Some(600)), Ok(Some(100))]);
+    assert_eq!([change(2), change(1 << 63), change(usize::MAX)], [refused(5, 0); 3]);
+
+    let (coefficients, codes) = table_of(&[&[GAP; 24][..], &[7]].concat());
+    assert_eq!(day_change(25, &coefficients, &codes, 0), Ok(None));
+    assert_eq!(day_change(25, &coefficients, &codes, 1), Ok(Some(0)));
+}
+
+#[test]
+fn unsound_nodes_in_the_order_examined() {
+    let column = |b| Column { a: 0, b, w: 1, k: 0 };
+    let (coefficients, mut codes) = table_of(&[1, 2, 3, 4, 5, 6, 7, 8]);
+    codes[0] = 9;
+    codes[3] = 9;
+    assert_eq!(finished(8, &coefficients, &codes, column(7)), refused(4, 7));
+    assert_eq!(finished(8, &coefficients, &codes, column(8)), refused(4, 4));
+    assert!(stopped(8, &coefficients, &codes, column(8), 3).is_ok());
+
+    let between_the_walks = finished(8, &coefficients, &[1, 9, 9, 1], column(8)).expect("taken");
+    assert_eq!(between_the_walks.count, 7);
 }

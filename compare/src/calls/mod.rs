@@ -4,30 +4,42 @@
 
 mod ask;
 mod ask_view;
+mod day_change;
+mod edges;
+mod finished;
+mod join;
 mod level;
 mod make;
 mod open;
 mod read_record;
+mod stopped;
 mod turn_back;
 mod write_record;
 
 use std::collections::BTreeMap;
 use std::fmt;
+use std::iter::successors;
 use std::panic::{catch_unwind, AssertUnwindSafe};
 
+use sagivelume::{Answer, Reading};
 use second::answer::answer;
 use second::random::Random;
 
-use crate::given::{Given, Head};
+use crate::given::{field, Given, Head};
 use crate::numbers::Room;
 use crate::records::{hours_stated, HEADER};
 
 pub use ask::Ask;
 pub use ask_view::AskView;
+pub use day_change::DayChange;
+pub use edges::Edges;
+pub use finished::FinishedColumn;
+pub use join::Join;
 pub use level::Level;
 pub use make::Make;
 pub use open::Open;
 pub use read_record::ReadRecord;
+pub use stopped::StoppedAt;
 pub use turn_back::TurnBack;
 pub use write_record::WriteRecord;
 
@@ -44,6 +56,11 @@ pub trait Call: Sized {
 
     /// A drawn call.
     fn draw(random: &mut Random) -> Self;
+
+    /// The call that is made after a drawn one, if one belongs to it: that of the next column.
+    fn next(&self) -> Option<Self> {
+        None
+    }
 
     /// The call as a line for the second program.
     fn line(&self) -> String;
@@ -89,6 +106,15 @@ fn outcome_of_record(head: &Head, bytes: &[u8]) -> String {
         }
         _ => outcome_of_table(head, hours_stated(bytes)),
     }
+}
+
+/// The fields of an answer without its count, each absent if there is no reading.
+fn answer_fields(answer: Answer) -> [String; 6] {
+    let of = |reading: Option<Reading>| [field(reading.map(|of| of.hour)), field(reading.map(|of| of.grams))];
+    let [first_hour, first] = of(answer.map(|summary| summary.first));
+    let [last_hour, last] = of(answer.map(|summary| summary.last));
+    let [low, high] = [field(answer.map(|summary| summary.low)), field(answer.map(|summary| summary.high))];
+    [first_hour, first, last_hour, last, low, high]
 }
 
 /// How often each outcome of one kind of call occurred.
@@ -140,12 +166,12 @@ impl fmt::Display for Difference {
     }
 }
 
-/// Compares the edge calls of one kind and then this many drawn ones. Each kind draws from the seed anew, so that a
-/// kind's calls do not depend on the kinds before it.
+/// Compares the edge calls of one kind and then this many drawn ones, each with those that belong to it. Each kind
+/// draws from the seed anew, so that a kind's calls do not depend on the kinds before it.
 pub fn compare<C: Call>(seed: u64, calls: usize) -> Result<Tally, Box<Difference>> {
     let mut random = Random::new(seed);
     let mut tally = Tally { name: C::NAME, listed: C::OUTCOMES, seen: BTreeMap::new() };
-    let drawn = (0..calls).map(|_| C::draw(&mut random));
+    let drawn = (0..calls).flat_map(|_| successors(Some(C::draw(&mut random)), C::next));
     for call in C::edges().into_iter().chain(drawn) {
         let outcome = compare_one(&call)?;
         *tally.seen.entry(outcome).or_default() += 1;
@@ -197,6 +223,11 @@ mod tests {
         lines_are_calls::<Open>();
         lines_are_calls::<Ask>();
         lines_are_calls::<AskView>();
+        lines_are_calls::<Edges>();
+        lines_are_calls::<StoppedAt>();
+        lines_are_calls::<FinishedColumn>();
+        lines_are_calls::<Join>();
+        lines_are_calls::<DayChange>();
     }
 
     #[test]

@@ -1,0 +1,106 @@
+//! Finished columns, joining two answers, and the day change.
+
+use crate::column::Column;
+use crate::linked;
+use crate::refusal::Refusal;
+
+/// A reading with its hour.
+#[derive(Clone, Copy, Debug, PartialEq, Eq)]
+pub struct Reading {
+    /// The hour of the series, not of the window.
+    pub hour: usize,
+    /// The reading itself.
+    pub grams: i32,
+}
+
+/// What a column says of its readings, if it has any.
+#[derive(Clone, Copy, Debug, PartialEq, Eq)]
+pub struct Summary {
+    /// The first reading.
+    pub first: Reading,
+    /// The last reading.
+    pub last: Reading,
+    /// The least reading.
+    pub low: i32,
+    /// The greatest reading.
+    pub high: i32,
+}
+
+/// An answer without its count; `None` is "no reading".
+pub type Answer = Option<Summary>;
+
+/// A finished column. One without an hour has no reading and count 0.
+#[derive(Clone, Copy, Debug, PartialEq, Eq)]
+pub struct Finished {
+    /// What it answers.
+    pub answer: Answer,
+    /// The number of nodes visited and walked down.
+    pub count: usize,
+}
+
+/// The finished answer of a column: first and last reading, each with its hour, low, high and count.
+///
+/// Refusals in the order 1 (n is 0 or over 16,384), 3 (a buffer is shorter than needed: P coefficients, P/2 codes),
+/// 5 (the window is not a < b ≤ n), 6 (w is 0 or over 4,096, or k is not below w), 4 (the node at its place is the
+/// first unsound one of those examined: the root values, called 0, then the opened nodes, then those on the walk to the
+/// first reading and on that to the last). For a column without an hour nothing is examined.
+///
+/// ```
+/// use sagivelume::{Column, Reading};
+///
+/// let coefficients = [32_760, 41_350, 8_140, 8_560, 300, 450, 2_000_001, 2_000_001];
+/// let codes = [1, 3, 1, 4];
+/// let column = Column { a: 0, b: 7, w: 3, k: 1 };
+///
+/// let finished = sagivelume::finished(7, &coefficients, &codes, column)?;
+/// let summary = finished.answer.expect("readings in hours 3 and 4");
+/// assert_eq!(summary.first, Reading { hour: 3, grams: 40_900 });
+/// assert_eq!(summary.last, Reading { hour: 4, grams: 32_760 });
+/// assert_eq!((summary.low, summary.high, finished.count), (32_760, 40_900, 11));
+///
+/// let hour_6 = Column { a: 6, b: 7, w: 1, k: 0 };
+/// assert_eq!(sagivelume::finished(7, &coefficients, &codes, hour_6)?.answer, None);
+/// # Ok::<(), sagivelume::Refusal>(())
+/// ```
+pub fn finished(n: usize, coefficients: &[i32], codes: &[u8], column: Column) -> Result<Finished, Refusal> {
+    linked::finished(n, coefficients, codes, column).taken()
+}
+
+/// Joins the answers of two columns that follow each other: first from the left, last from the right, lesser low,
+/// greater high. "No reading" joined with an answer gives that answer. Any two answers are taken.
+///
+/// ```
+/// use sagivelume::{Reading, Summary};
+///
+/// let at = |hour, grams| Reading { hour, grams };
+/// let left = Summary { first: at(0, 41_200), last: at(1, 41_350), low: 41_200, high: 41_350 };
+/// let right = Summary { first: at(3, 40_900), last: at(4, 32_760), low: 32_760, high: 40_900 };
+/// let both = Summary { first: at(0, 41_200), last: at(4, 32_760), low: 32_760, high: 41_350 };
+/// assert_eq!(sagivelume::join(Some(left), Some(right)), Some(both));
+/// assert_eq!(sagivelume::join(None, Some(right)), Some(right));
+/// assert_eq!(sagivelume::join(None, None), None);
+/// ```
+pub fn join(left: Answer, right: Answer) -> Answer {
+    linked::join(left, right).answer()
+}
+
+/// The change of a day, which has the hours 24·d to 24·d + 23, cut at n: its last reading minus its first, `None` for
+/// "no reading".
+///
+/// Refusals in the order 1 (n is 0 or over 16,384), 3 (a buffer is shorter than needed: P coefficients, P/2 codes),
+/// 5 (24·d ≥ n), 4 as for a finished column over these hours.
+///
+/// ```
+/// use sagivelume::{Refusal, GAP};
+///
+/// let coefficients = [32_760, 41_350, 8_140, 8_560, 300, 450, 2_000_001, 2_000_001];
+/// assert_eq!(sagivelume::day_change(7, &coefficients, &[1, 3, 1, 4], 0)?, Some(-8_410));
+/// assert_eq!(sagivelume::day_change(3, &[GAP; 4], &[4, 4], 0)?, None);
+///
+/// let refused = sagivelume::day_change(7, &coefficients, &[1, 3, 1, 4], 1);
+/// assert_eq!(refused, Err(Refusal { number: 5, place: 0 }));
+/// # Ok::<(), Refusal>(())
+/// ```
+pub fn day_change(n: usize, coefficients: &[i32], codes: &[u8], day: usize) -> Result<Option<i32>, Refusal> {
+    linked::day_change(n, coefficients, codes, day).taken()
+}
