@@ -1,13 +1,11 @@
 -- Each answer of the calls: the refusal of the check that decides, or the column's own answer. Assumes nothing.
-use mathlib.Core.Path.{_≡_, refl, sym, _∙_}
-use mathlib.Core.Bool.{Bool, true, false, cond}
+use mathlib.Core.Path.{_≡_, refl, sym}
+use mathlib.Core.Bool.{true, false}
 use mathlib.Core.List.{List, [], _∷_}
-use Prim.Native.Nat.{ℕ, _-_, _*_, _^_, _≤_, _<_}
-use native.Mathlib.Omega.{arith}
-use lib.Dec.{leb, ltb}
+use Prim.Native.Nat.{ℕ, _-_, _*_, _≤_, _<_}
+use lib.Dec.{leb}
 use lib.IntN.{ℤ}
-use lib.Pow.{pow-pos}
-use borrow.Author.Tests.{lt-leb, ltb-false}
+use borrow.Author.Tests.{lt-leb}
 use Rattle.words.specs.Constants.{dayHours}
 use Rattle.words.specs.declared.Answer.{Answer}
 use Rattle.words.specs.declared.Column.{Column}
@@ -15,7 +13,7 @@ use Rattle.words.specs.declared.DayChange.{DayChange}
 use Rattle.words.specs.declared.Edges.{Edges}
 use Rattle.words.specs.declared.Finished.{Finished}
 use Rattle.words.specs.declared.Refusal.{Refusal}
-use Rattle.words.specs.declared.Refusal.the-variants.{BadHours, BadWindow, TooDeep}
+use Rattle.words.specs.declared.Refusal.the-variants.{BadHours, BadWindow}
 use Rattle.words.specs.declared.Stopped.{Stopped}
 use Rattle.words.specs.declared.Taking.{Taking}
 use Rattle.om3.specs.Series.{badHours, levels}

@@ -58,11 +58,10 @@ module _ (n : ℕ) (cs : List ℤ) (ks : List ℕ) (range : Range) (first last :
             answer = λ l u v p q.
                 let one = F .descends l u p in
                 let two = L .descends l v q in
-                let a = one .came reading m refl in
-                let b = two .came latest k refl in
-                let walked : count + m + k ≡ count + (l - u .level) + (l - v .level) = omega (arith, a .1, b .1) in
-                let e = a .0 in
-                let f = b .0 in
+                let e = one .ends reading m refl in
+                let f = two .ends latest k refl in
+                let walked : count + m + k ≡ count + (l - u .level) + (l - v .level) =
+                omega (arith, one .counted reading m refl, two .counted latest k refl) in
                 rw (sym (one .examined), sym (two .examined))
                 (λ i. Finished.Answered
                 (Answer.Found (record { first = e i; last = f i; low = lowOf range; high = highOf range }))

@@ -45,10 +45,11 @@ pub record Edged (a b w k : ℕ) : Type 0 where
   pub most : w ≤ mostColumns
   pub among : k ≤ w
 
--- The checks of a column come in this order: of the table, of the window, of the depth, of the nodes. [refusals 17]
+-- Checks 1 and 3, of the table, come first. [refusals 17]
 abbrev pub lentChecks : ℕ → Table → Check
 lentChecks n t = inOrder (checkHours n ∷ checkRoom (tableShort n t) ∷ [])
 
+-- Checks 5 and 6, of the window and of its columns, come next. [refusals 17]
 abbrev pub windowChecks : (n a b w k : ℕ) → Check
 windowChecks n a b w k = inOrder (checkWindow n a b ∷ checkColumn w k ∷ [])
 

@@ -106,9 +106,8 @@ module _ (n : ℕ) (cs : List ℤ) (ks : List ℕ) (w : Towards) where
               let none : l - v .level ≡ 0 = omega arith in
               record {
                 examined = rw none;
-                came = λ r m e.
-                    let same = came-same e in
-                    rw none (sym (same .0) ∙ reading-same l v here, omega (arith, same .1));
+                ends = λ r m e. rw none (sym (came-same e .0) ∙ reading-same l v here);
+                counted = λ r m e. omega (arith, came-same e .1);
               };
         }
 
@@ -125,7 +124,11 @@ module _ (n : ℕ) (cs : List ℤ) (ks : List ℕ) (w : Towards) where
           descends = λ l v here.
               let bad = not-stepped (soundNode l n T v) _ _ (sym (step .halves l v here)) in
               let same : number v ≡ at .id = ap (λ (k : ℕ). record { 0 = k }) (here .located .numbered) in
-              record { examined = rw (one-more l v here, bad, same); came = λ r m e. absurd (not-came e) };
+              record {
+                examined = rw (one-more l v here, bad, same);
+                ends = λ r m e. absurd (not-came e);
+                counted = λ r m e. absurd (not-came e);
+              };
         }
 
     -- A sound node: the descent from the half that is taken is the rest of it.
@@ -143,10 +146,8 @@ module _ (n : ℕ) (cs : List ℤ) (ks : List ℕ) (w : Towards) where
           record {
             examined =
                 rw (walk-more (towards l T w) _ _ v u more takes, S l v here .isSound) (D .examined);
-            came = λ q m e.
-                let rest = D .came q m e in
-                let end = ap (readingAt l T) (end-more (towards l T w) _ _ v u more takes) in
-                (rest .0 ∙ sym end, omega (arith, rest .1));
+            ends = λ q m e. D .ends q m e ∙ sym (ap (readingAt l T) (end-more (towards l T w) _ _ v u more takes));
+            counted = λ q m e. omega (arith, D .counted q m e);
           }
 
       pub goes-left : takesLeft w a b ≡ true → (r : Descended) → From (c + 1) (leftReached at a) r → From c at r

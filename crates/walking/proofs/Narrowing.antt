@@ -27,19 +27,19 @@ opened-hours x stop at one o =
     let wide = ltb-true stop (at .hours) (and-right (not (insideOf x at)) _ (and-right (touchesOf x at) _ o)) in
     omega arith
 
-module _ (n : ℕ) (cs : List ℤ) (ks : List ℕ) (x : Column) (stop seen : ℕ) (start : Reached) where
+module _ (n : ℕ) (cs : List ℤ) (ks : List ℕ) (x : Column) (stop c : ℕ) (start : Reached) where
   -- Where the walk has come to: a node that is lent, with room to count, from which a walk is one from the start.
   pub record CameTo (at : Reached) (opened : ℕ) : Type 0 where
     pub below : Below cs ks at
     pub room : opened + at .hours ≤ 2 * length ks
     pub within : at .hours ≤ start .hours
-    pub rest : (r : Walked) → WalkedFrom n cs ks x stop opened at r → WalkedFrom n cs ks x stop seen start r
+    pub rest : (r : Walked) → WalkedFrom n cs ks x stop opened at r → WalkedFrom n cs ks x stop c start r
 
-  pub at-start : Below cs ks start → seen + start .hours ≤ 2 * length ks → CameTo start seen
+  pub at-start : Below cs ks start → c + start .hours ≤ 2 * length ks → CameTo start c
   at-start b m = record { below = b; room = m; within = omega arith; rest = λ r w. w }
 
   pub ends : (at : Reached) (opened : ℕ) → CameTo at opened → openedOf x stop at ≡ false
-      → EndsAt n cs ks x stop seen start at opened
+      → EndsAt n cs ks x stop c start at opened
   ends at opened came closed = record { lent = came .below; closed = closed; rest = came .rest }
 
   module _ (at : Reached) (opened : ℕ) (came : CameTo at opened) (o : openedOf x stop at ≡ true)
@@ -47,7 +47,7 @@ module _ (n : ℕ) (cs : List ℤ) (ks : List ℕ) (x : Column) (stop seen : ℕ
     abbrev lent : Below cs ks at
     lent = came .below
 
-    pub unsound : SteppedDown n cs ks at Halves.Unsound → WalkedFrom n cs ks x stop seen start (Walked.Unsound (at .id))
+    pub unsound : SteppedDown n cs ks at Halves.Unsound → WalkedFrom n cs ks x stop c start (Walked.Unsound (at .id))
     unsound step = came .rest _ (walking.node-unsound n cs ks x stop opened at o two lent step)
 
     module _ (r q : Range) (step : SteppedDown n cs ks at (Halves.Sound r q)) where
@@ -72,7 +72,7 @@ module _ (n : ℕ) (cs : List ℤ) (ks : List ℕ) (x : Column) (stop seen : ℕ
             rest = λ z w. came .rest z (walking.only-second n cs ks x stop opened at o two lent r q step apart z w);
           }
 
-      pub splits : SplitsAt n cs ks x stop seen start (leftReached at r) (rightReached at q) (opened + 1)
+      pub splits : SplitsAt n cs ks x stop c start (leftReached at r) (rightReached at q) (opened + 1)
       splits =
           record {
             before = left-below cs ks at lent two r (p .0);

@@ -3,7 +3,7 @@
 --
 --   takesLeft w a b     whether the descent takes the left of two halves with the ranges a and b
 --   towards l t w       the half that it takes at a node
---   descentCheck r            what a descent says, as a check
+--   descentCheck r      what a descent says, as a check
 --   Small z             z is from −1,000,000 to 2,000,003, as a reading or the gap mark is
 --   Descends            what a descent says of node v
 --   DescendedFrom       the contract of the descent from a node, c levels below where it began
@@ -14,7 +14,6 @@ use Prim.Native.Nat.{ℕ, _+_, _-_, _≤_}
 use lib.IntN.{ℤ, pos, negℤ}
 use lib.Signed.{_≤ℤ_}
 use Rattle.words.specs.Constants.{largestReading, gap}
-use Rattle.words.specs.declared.Column.{Column}
 use Rattle.words.specs.declared.Range.{Range}
 use Rattle.words.specs.declared.Reading.{Reading}
 use Rattle.words.specs.declared.Refusal.the-variants as refusal
@@ -48,8 +47,9 @@ descentCheck (Descended.Came reading levels) = passes
 -- [columns 15, 16, 17]
 pub record Descends (l n : ℕ) (t : Table) (w : Towards) (c : ℕ) (v : Node) (r : Descended) : Type 0 where
   pub examined : descentCheck r ≡ examineNodes l n t (walk (towards l t w) (l - v .level) v)
-  pub came : (reading : Reading) (levels : ℕ) → r ≡ Descended.Came reading levels
-      → (reading ≡ readingAt l t (walkEnd (towards l t w) (l - v .level) v)) × (levels ≡ c + (l - v .level))
+  pub ends : (reading : Reading) (levels : ℕ) → r ≡ Descended.Came reading levels
+      → reading ≡ readingAt l t (walkEnd (towards l t w) (l - v .level) v)
+  pub counted : (reading : Reading) (levels : ℕ) → r ≡ Descended.Came reading levels → levels ≡ c + (l - v .level)
 
 -- What a reading or a gap holds is far from the ends of 32 bits.
 abbrev pub Small : ℤ → Type 0

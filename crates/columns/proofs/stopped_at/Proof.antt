@@ -5,7 +5,7 @@ use Prim.Native.Nat.{_-_, _/_, _^_, _≤_}
 use native.Mathlib.Omega.{arith}
 use lib.Pow.{pow-pos}
 use borrow.Author.Needs.{needs}
-use Rattle.om3.specs.Series.{levels}
+use Rattle.om3.specs.Series.{levels, P}
 use Rattle.columns.proofs.Depths as depths
 use Rattle.columns.proofs.Stopping as laws
 use Rattle.columns.proofs.stopped_at.Statement.{statement}
@@ -19,7 +19,9 @@ covered : (c : tie.Else2) →
 covered c =
     let places = c .before .before .places .ensures in
     let power = c .before .power .ensures in
-    let deep = depths.deep-enough _ _ (rw (places, power) at (c .if2 .left)) in
+    let a = c .before .before .before .before .before .args in
+    let few : 2 ^ a .d ≤ P (a .n) = omega (arith, places, power, c .if2 .left) in
+    let deep = depths.deep-enough (a .n) (a .d) few in
     (deep, rw (places, power) (depths.divided _ _ deep))
 
 returns : tie.Need-returns

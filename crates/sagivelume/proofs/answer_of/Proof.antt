@@ -1,6 +1,5 @@
 -- `answer_of` goes by whether a reading is told. Assumes nothing.
 use borrow.Author.Tests.{eq-eqb, ne-eqb}
-use borrow.Author.Needs.{needs}
 use Rattle.signed.proofs.Widths.{reads-back}
 use Rattle.sagivelume.proofs.answer_of.Statement.{statement}
 use Rattle.sagivelume.proofs.answer_of.Tie as tie

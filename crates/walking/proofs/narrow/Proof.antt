@@ -15,11 +15,11 @@ use Rattle.walking.proofs.narrow.Statement.{statement}
 use Rattle.walking.proofs.narrow.Tie as tie
 
 abbrev Inv-loop : tie.InvT-loop
-Inv-loop n coefficients codes x stop seen at₀ opened₀ at opened =
-    CameTo n coefficients codes x stop seen at₀ at opened
+Inv-loop n coefficients codes x stop c at₀ opened₀ at opened =
+    CameTo n coefficients codes x stop c at₀ at opened
 
 abbrev μ-loop : tie.MeasureT-loop
-μ-loop n coefficients codes x stop seen at₀ opened₀ at opened = at .hours
+μ-loop n coefficients codes x stop c at₀ opened₀ at opened = at .hours
 
 -- The node that the walk is at ends at an hour that is counted without overflow.
 ends-early : (c : tie.At-loop Inv-loop μ-loop) → c .loop .at .from .0 + c .loop .at .hours < 2 ^ 64
