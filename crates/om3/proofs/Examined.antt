@@ -40,7 +40,7 @@ pub first-absent : (b : Bool) (r : Refusal) (cs : List Check) → inOrder (refus
     → (b ≡ false) × (inOrder cs ≡ passes)
 first-absent b r cs e = let h = order-parts (refuseIf b r) cs e in (refuse-not b r (h .0), h .1)
 
-then-assoc : (c d e : Check) → andThen c (andThen d e) ≡ andThen (andThen c d) e
+pub then-assoc : (c d e : Check) → andThen c (andThen d e) ≡ andThen (andThen c d) e
 then-assoc passes d e = refl
 then-assoc (refuses r) d e = refl
 

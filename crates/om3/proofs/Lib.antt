@@ -55,3 +55,4 @@ pub mod NeverRefused
 pub mod ColumnChecks
 pub mod ColumnRanges
 pub mod Demand3
+pub mod PrintedColumns

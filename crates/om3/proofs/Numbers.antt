@@ -17,7 +17,9 @@ use Rattle.om3.specs.Columns.{edges}
 use Rattle.om3.specs.Stopped.{shares, inside, opened, visited, countAt, rangeOver, outer, innerNodes, stopped}
 use Rattle.om3.specs.Finished.{walk, walkEnd, lastOr, finished}
 use Rattle.om3.specs.Days.{dayChange}
-use Rattle.om3.specs.Numbers.{Case, replyTo, numbers, unmarked, outside, further}
+use Rattle.om3.specs.Text.{split, windowLine, hourLine, withoutEnd}
+use Rattle.om3.specs.Printed.{digitsOf, decimal, columnLines, checkLines, checkNumbers, printed}
+use Rattle.om3.specs.Numbers.{Case, replyTo, numbers, unmarked, outside, further, printing}
 
 -- Each question of a list is replied to as the list says.
 abbrev pub Holds : List Case → Type 0
@@ -27,7 +29,8 @@ unfoldable computing : Unit {0}
 unfolding upFrom any every keep firstFrom levels hourOf width start hours levelOf look rangeOf coefficient pairCode
     reachedAt inOrder soundNode nodesBelow examine checkReadings edges shares inside opened visited countAt
     rangeOver outer innerNodes stopped walk walkEnd lastOr finished dayChange levelStretch bytesOf numberFrom
-    signedOf recordOf tableIn openedRecord askedRecord flatMap
+    signedOf recordOf tableIn openedRecord askedRecord split windowLine hourLine withoutEnd digitsOf decimal columnLines
+    checkLines checkNumbers printed flatMap
 computing = tt
 
 -- The numbers marked [P], 1 to 10.
@@ -49,3 +52,8 @@ outside-hold = refl
 pub further-hold : Holds further
 unfolding computing
 further-hold = refl
+
+-- What is printed: document 01's example, and texts where it leaves room.
+pub printing-holds : Holds printing
+unfolding computing
+printing-holds = refl

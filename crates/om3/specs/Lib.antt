@@ -16,6 +16,8 @@ pub mod Stopped
 pub mod Finished
 pub mod Joined
 pub mod Days
+pub mod Text
+pub mod Printed
 pub mod Looked
 pub mod Drawn
 pub mod Numbers

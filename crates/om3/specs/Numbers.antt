@@ -7,8 +7,10 @@
 --   unmarked          numbers 11 and 12, and the sizes of the house record
 --   outside           worked examples of documents 003 and 004
 --   further           where document 01 leaves room or an error comes easily
+--   printing          texts and what is printed for them
 use mathlib.Core.List.{List, [], _∷_, _++_}
 use Prim.Native.Nat.{ℕ, _-_, _*_}
+use Prim.Native.String.{String}
 use lib.IntN.{ℤ, pos, negℤ}
 use lib.ListN.{replicate}
 use Rattle.words.specs.Constants.{gap}
@@ -26,6 +28,8 @@ use Rattle.om3.specs.Columns.{edges}
 use Rattle.om3.specs.Stopped.{stopped}
 use Rattle.om3.specs.Finished.{finished}
 use Rattle.om3.specs.Days.{dayChange}
+use Rattle.om3.specs.Text.{ascii}
+use Rattle.om3.specs.Printed.{printed}
 
 pub data Question : Type 0 where
   -- the table of n hours that hold s; the checks of making it
@@ -54,6 +58,8 @@ pub data Question : Type 0 where
   -- what opening bytes answers; asking them for a coefficient
   openFor : (bytes : List ℕ) → Question
   askFor : (bytes : List ℕ) (p : ℕ) → Question
+  -- what is printed for a text
+  printFor : (text : List ℕ) → Question
 
 pub data Reply : Type 0 where
   table : List ℤ → List ℕ → Reply
@@ -89,6 +95,7 @@ replyTo (readingFor r cs ks) =
     says (saidOfUnpacking (unpackingBy (readingChecks r (room cs ks)) (hoursIn r)))
 replyTo (openFor r) = says (saidOfOpening (openedRecord r))
 replyTo (askFor r p) = says (saidOfAsking (askedRecord r p))
+replyTo (printFor text) = bytes (printed text)
 replyTo (edgesFor n a b w k) = says (saidOfEdges (edges n a b w k))
 replyTo (sizeFor n) = says (taken (pos (recordLength n) ∷ pos (recordSize n) ∷ []))
 
@@ -108,8 +115,8 @@ abbrev -g : ℕ → ℤ
 -g x = negℤ (pos x)
 
 -- A column as the printer prints it, with the hours of its first and its last reading.
-abbrev printed : (firstHour lastHour first last low high count : ℕ) → Reply
-printed t u x y low high count =
+abbrev shown : (firstHour lastHour first last low high count : ℕ) → Reply
+shown t u x y low high count =
     says (taken (pos t ∷ g x ∷ pos u ∷ g y ∷ g low ∷ g high ∷ pos count ∷ []))
 
 -- A column at a depth, with both ranges; without the inner one.
@@ -146,9 +153,9 @@ numbers c e =
     ∷ (tableFor 7 seven is
     table (g 32760 ∷ g 41350 ∷ g 8140 ∷ g 8560 ∷ g 300 ∷ g 450 ∷ g 2000001 ∷ g 2000001 ∷ []) (1 ∷ 3 ∷ 1 ∷ 4 ∷ []))
     -- 5
-    ∷ (finishedFor 7 seven 0 7 3 0 is printed 0 1 41200 41350 41200 41350 9)
-    ∷ (finishedFor 7 seven 0 7 3 1 is printed 3 4 40900 32760 32760 40900 (4 * 3 - 1))
-    ∷ (finishedFor 7 seven 0 7 3 2 is printed 5 5 32790 32790 32790 32790 7)
+    ∷ (finishedFor 7 seven 0 7 3 0 is shown 0 1 41200 41350 41200 41350 9)
+    ∷ (finishedFor 7 seven 0 7 3 1 is shown 3 4 40900 32760 32760 40900 (4 * 3 - 1))
+    ∷ (finishedFor 7 seven 0 7 3 2 is shown 5 5 32790 32790 32790 32790 7)
     -- 6
     ∷ (stoppedFor 7 seven 0 7 3 0 0 is outerAlone 32760 41350 1)
     ∷ (stoppedFor 7 seven 0 7 3 0 1 is outerAlone 40900 41350 3)
@@ -224,7 +231,7 @@ damaged = 0 ∷ 0 ∷ 0 ∷ 10 ∷ 1 ∷ 0 ∷ 1 ∷ 255 ∷ 254 ∷ 12 ∷ 255 
 abbrev pub further : List Case
 further =
     -- the first hour of a column is a gap: its first reading is a later one [errors 3]
-    (finishedFor 4 (gap ∷ g 5 ∷ g 6 ∷ g 7 ∷ []) 0 4 1 0 is printed 1 3 5 7 5 7 5)
+    (finishedFor 4 (gap ∷ g 5 ∷ g 6 ∷ g 7 ∷ []) 0 4 1 0 is shown 1 3 5 7 5 7 5)
     -- a column without an hour: no reading, count 0 [columns 5]
     ∷ (finishedFor 4 (gap ∷ g 5 ∷ g 6 ∷ g 7 ∷ []) 1 2 4 1 is says (taken (pos 0 ∷ [])))
     -- all below the left half before the right half: pair 4 before node 3 [sound 6]
@@ -235,7 +242,7 @@ further =
     -- opened nodes are examined before the walk to the first reading: pair 7 before pair 4 [columns 16]
     ∷ (finishedIn 8 eight (9 ∷ 1 ∷ 1 ∷ 9 ∷ []) 0 7 1 0 is refused 4 7)
     -- pairs between the two walks are not examined [columns 18]
-    ∷ (finishedIn 8 eight (1 ∷ 9 ∷ 9 ∷ 1 ∷ []) 0 8 1 0 is printed 0 7 1 8 1 8 7)
+    ∷ (finishedIn 8 eight (1 ∷ 9 ∷ 9 ∷ 1 ∷ []) 0 8 1 0 is shown 0 7 1 8 1 8 7)
     -- a reading at hour 12 of a series of 9 hours is found at its pair [sound 4]
     ∷ (turningFor 9 late (4 ∷ 4 ∷ 4 ∷ 4 ∷ 4 ∷ 4 ∷ 2 ∷ 4 ∷ []) is refused 4 14)
     -- level 1 of the printer's seven hours; there is no level 2 of details [level 1, 2]
@@ -262,4 +269,37 @@ further =
     ∷ (readingFor fourteen 2 1 is says (taken (pos 1 ∷ [])))
     ∷ (askFor fourteen 1 is says (taken (-g 500 ∷ [])))
     ∷ (askFor fourteen 2 is refused 13 0)
+    ∷ []
+
+-- What is printed for the text t.
+infix 20 _prints_
+abbrev _prints_ : String → String → Case
+_prints_ t p = printFor (ascii t) is bytes (ascii p)
+
+-- Document 01's example, exactly, and texts where it leaves room. [printer 9]
+abbrev pub printing : List Case
+printing =
+    (printFor (ascii "0 7 3\n41200\n41350\n-\n40900\n32760\n32790\n-\n") is
+    bytes
+    (ascii "column first last low high nodes\n"
+    ++ ascii "0 41200 41350 41200 41350 9\n"
+    ++ ascii "1 40900 32760 32760 40900 11\n"
+    ++ ascii "2 32790 32790 32790 32790 7\n"))
+    -- a refusal's number and place; empty input; a line feed alone; the first of two bad lines [printer 4, 5, 7]
+    ∷ ("0 7 3\n+1\n--" prints "refused 12 at 2\n")
+    ∷ ("" prints "refused 12 at 1\n")
+    ∷ ("\n" prints "refused 12 at 1\n")
+    -- the last line may lack its line feed; one more makes an empty line [printer 3]
+    ∷ ("0 1 1\n-5" prints "column first last low high nodes\n0 -5 -5 -5 -5 3\n")
+    ∷ ("0 1 1\n5\n\n" prints "refused 12 at 3\n")
+    -- leading zeros are digits, -0 is 0; w > L; no reading [printer 1, 2, 8]
+    ∷ ("00000 00001 00002\n-0000000" prints "column first last low high nodes\n0 0 0 0 0 3\n1 - - - - 0\n")
+    -- six digits in line 1 and eight in an hour are too many [printer 1, 2]
+    ∷ ("000000 1 1\n5" prints "refused 12 at 1\n")
+    ∷ ("0 1 1\n-00000005" prints "refused 12 at 2\n")
+    -- then 1, 2, 5, 6 [printer 5, 6]
+    ∷ ("1 0 0" prints "refused 1 at 0\n")
+    ∷ ("1 0 0\n5\n2000003" prints "refused 2 at 1\n")
+    ∷ ("1 0 0\n5" prints "refused 5 at 0\n")
+    ∷ ("0 1 0\n5" prints "refused 6 at 0\n")
     ∷ []

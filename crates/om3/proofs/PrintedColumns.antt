@@ -1,0 +1,96 @@
+-- The columns of a text that is taken: its hours are a series, and the table that they are drawn from is that series'
+-- own. So each printed line is of an answer, which is what a look through the column's hours gives. Assumes nothing.
+use mathlib.Core.Path.{_≡_, refl}
+use mathlib.Core.Bool.{true, not, _&&_, _||_}
+use mathlib.Core.List.{List, [], _∷_, map}
+use Prim.Native.Nat.{ℕ, zero, suc, _+_, _<_}
+use native.Mathlib.Omega.{arith}
+use lib.Dec.{leb, ltb, eqb}
+use lib.IntN.{ℤ}
+use lib.ListN.{length, getD, length-map}
+use borrow.Author.Tests.{ltb-true, ltb-false, leb-true, not-false}
+use Rattle.words.specs.Constants.{mostColumns, gap}
+use Rattle.words.specs.declared.Refusal.the-variants.{BadReading, BadWindow, BadColumn}
+use Rattle.words.specs.declared.Finished.{Finished}
+use Rattle.words.specs.declared.HourLine.{HourLine}
+use Rattle.om3.specs.Series.{isReading, isGap, Series, levels, hour}
+use Rattle.om3.specs.Table.{tableOf}
+use Rattle.om3.specs.Checks.{passes}
+use Rattle.om3.specs.Refusals.{checkHours, checkWindow, checkColumn}
+use Rattle.om3.specs.Columns.{column, columnHours}
+use Rattle.om3.specs.Finished.{finished}
+use Rattle.om3.specs.Looked.{lookThrough}
+use Rattle.om3.specs.Drawn.{Drawn, finishedCount}
+use Rattle.om3.specs.Printed.{gramsOf, checkLines, checkNumber, checkNumbers, printingChecks}
+use Rattle.om3.proofs.Tests.{and-left, and-right, neither}
+use Rattle.om3.proofs.Examined.{then-first, then-second, refuse-not, order-parts}
+use Rattle.om3.proofs.Making.{hours-some}
+use Rattle.om3.proofs.Demand2.{made-has}
+use Rattle.om3.proofs.Demand3.{finished-drawn}
+
+-- An hour whose line passes check 2 holds a reading or a gap.
+number-holds : (t : ℕ) (h : HourLine) → checkNumber t h ≡ passes → (isReading (gramsOf h) || isGap (gramsOf h)) ≡ true
+number-holds t HourLine.Gap e = refl
+number-holds t HourLine.Bad e = refl
+number-holds t (HourLine.Grams z) e =
+    rw (not-false (isReading z) (refuse-not (not (isReading z)) (BadReading (hour t)) e))
+
+numbers-hold : (t : ℕ) (hs : List HourLine) → checkNumbers t hs ≡ passes → (k : ℕ) → k < length hs
+    → (let z = getD (map gramsOf hs) k gap in isReading z || isGap z) ≡ true
+unfolding checkNumbers
+numbers-hold t [] e k h = absurd (omega arith)
+numbers-hold t (x ∷ hs) e zero h = number-holds t x (then-first (checkNumber t x) _ e)
+numbers-hold t (x ∷ hs) e (suc k) h =
+    numbers-hold (t + 1) hs (then-second (checkNumber t x) _ e) k (omega arith)
+
+module _ (a b w : ℕ) (hs : List HourLine) (ok : printingChecks a b w hs ≡ passes) where
+  abbrev n : ℕ
+  n = length hs
+
+  abbrev s : List ℤ
+  s = map gramsOf hs
+
+  -- Its checks, one after the other: 12, 1, 2, 5 and 6 pass.
+  record Passed : Type 0 where
+    hours : checkHours n ≡ passes
+    numbers : checkNumbers 0 hs ≡ passes
+    window : checkWindow n a b ≡ passes
+    columns : checkColumn w 0 ≡ passes
+
+  passed : Passed
+  passed =
+      let c = order-parts (checkLines 2 hs) _ ok .1 in
+      let d = order-parts (checkHours n) _ c in
+      let e = order-parts (checkNumbers 0 hs) _ (d .1) in
+      let f = order-parts (checkWindow n a b) _ (e .1) in
+      record { hours = d .0; numbers = e .0; window = f .0; columns = order-parts (checkColumn w 0) [] (f .1) .0 }
+
+  pub text-series : Series n s
+  text-series =
+      let some = hours-some n (passed .hours) in
+      record {
+        some = some .0;
+        most = some .1;
+        size = length-map hs gramsOf;
+        holds = numbers-hold 0 hs (passed .numbers);
+      }
+
+  text-drawn : (k : ℕ) → k < w → Drawn n a b w k
+  text-drawn k h =
+      let window = not-false (ltb a b && leb b n) (refuse-not _ BadWindow (passed .window)) in
+      let most = neither (eqb w 0 || ltb mostColumns w) (leb w 0) (refuse-not _ BadColumn (passed .columns)) .0 in
+      record {
+        ordered = ltb-true a b (and-left (ltb a b) (leb b n) window);
+        ends = leb-true b n (and-right (ltb a b) (leb b n) window);
+        some = omega arith;
+        most = ltb-false mostColumns w (neither (eqb w 0) (ltb mostColumns w) most .1);
+        below = h;
+      }
+
+  -- Each column that is printed is answered.
+  pub columns-answered : (k : ℕ) → k < w
+      → (let t = tableOf (levels n) n s in
+      let x = column a b w k in
+      finished n t a b w k ≡ Finished.Answered (lookThrough n s (columnHours x)) (finishedCount n t x))
+  columns-answered k h =
+      finished-drawn n s (tableOf (levels n) n s) text-series (made-has n s) a b w k (text-drawn k h)
