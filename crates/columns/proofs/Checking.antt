@@ -104,7 +104,7 @@ module _ (n a b w k : ℕ) where
     window-hours x g = rw (e, f, g)
 
 -- What the answer of these checks says of them.
-edges-refused : (c : Check) (x : Column) (why : Refusal) → Edges.Refused why ≡ edgesBy c x → c ≡ refuses why
+pub edges-refused : (c : Check) (x : Column) (why : Refusal) → Edges.Refused why ≡ edgesBy c x → c ≡ refuses why
 edges-refused passes x why e = cc
 edges-refused (refuses r) x why e = cc
 
