@@ -25,6 +25,8 @@ pub mod answer;
 
 pub mod random;
 
+pub mod season;
+
 pub mod vectors;
 
 pub use columns::{edges, stopped, Column, Stopped};

@@ -6,9 +6,10 @@ use std::process::ExitCode;
 
 use second::answer::answer;
 use second::printer::{print, EXAMPLE};
+use second::season;
 use second::vectors::{written, Written};
 
-const USAGE: &str = "usage: second print | second answer | second example | second vectors DIR";
+const USAGE: &str = "usage: second print | second answer | second example | second season | second vectors DIR";
 
 fn main() -> ExitCode {
     let arguments: Vec<String> = std::env::args().skip(1).collect();
@@ -16,6 +17,7 @@ fn main() -> ExitCode {
         ["print"] => run_print(),
         ["answer"] => run_answer(),
         ["example"] => run_example(),
+        ["season"] => io::stdout().write_all(season::log().as_bytes()),
         ["vectors", crates] => run_vectors(Path::new(crates)),
         _ => {
             eprintln!("{USAGE}");

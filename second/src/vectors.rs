@@ -1,6 +1,7 @@
 //! The vectors: calls with chosen contents and this program's answers to them, in plain numbers that a small program
 //! can read. `crates/vectors` runs those of tables, `crates/record_vectors` those of records, and
-//! `crates/column_vectors` those of columns.
+//! `crates/column_vectors` those of columns. `crates/printer_vectors` runs the printer on inputs, which stand as they
+//! are.
 //!
 //! A call is the number of what is called, the numbers it takes, and its buffers, each its length and then its content.
 //! The answer is the number of the refusal, 0 if the call is taken, its place, the fields of the answer, each 0 on a
@@ -19,16 +20,18 @@ pub mod records;
 
 pub mod columns;
 
+pub mod printer;
+
 /// The greatest number that the programs read.
 pub const GREATEST_NUMBER: u64 = 9_999_999_999_999;
 
 /// A call with what its buffers hold before.
 pub trait Vector {
     /// The call as lines.
-    fn lines(&self) -> String;
+    fn lines(&self) -> Vec<u8>;
 
     /// The name of the call and its outcome, and the answer as lines.
-    fn answer(self) -> (String, String);
+    fn answer(self) -> (String, Vec<u8>);
 }
 
 /// What a program is run on and what it must write.
@@ -36,20 +39,20 @@ pub struct Written {
     /// The crate of the program.
     pub program: &'static str,
     /// The calls as text.
-    pub input: String,
+    pub input: Vec<u8>,
     /// The answers to them as text.
-    pub output: String,
+    pub output: Vec<u8>,
     /// How many calls had each outcome.
     pub outcomes: BTreeMap<String, usize>,
 }
 
 impl Written {
     fn of(program: &'static str, calls: Vec<impl Vector>) -> Written {
-        let (mut input, mut output, mut outcomes) = (String::new(), String::new(), BTreeMap::new());
+        let (mut input, mut output, mut outcomes) = (Vec::new(), Vec::new(), BTreeMap::new());
         for call in calls {
-            input += &call.lines();
+            input.extend(call.lines());
             let (outcome, answer) = call.answer();
-            output += &answer;
+            output.extend(answer);
             *outcomes.entry(outcome).or_insert(0) += 1;
         }
         Written { program, input, output, outcomes }
@@ -57,11 +60,12 @@ impl Written {
 }
 
 /// The vectors of each program.
-pub fn written() -> [Written; 3] {
+pub fn written() -> [Written; 4] {
     [
         Written::of("vectors", tables::calls()),
         Written::of("record_vectors", records::calls()),
         Written::of("column_vectors", columns::calls()),
+        Written::of("printer_vectors", printer::calls()),
     ]
 }
 
@@ -92,9 +96,9 @@ fn lent<T: Copy + Into<i64>>(buffer: &[T]) -> Vec<i64> {
 }
 
 /// Each part begins a line; eight numbers to a line.
-fn lines(parts: &[Vec<i64>]) -> String {
+fn lines(parts: &[Vec<i64>]) -> Vec<u8> {
     let numbers = |row: &[i64]| row.iter().map(i64::to_string).collect::<Vec<_>>().join(" ") + "\n";
-    parts.iter().flat_map(|part| part.chunks(8)).map(numbers).collect()
+    parts.iter().flat_map(|part| part.chunks(8)).map(numbers).collect::<String>().into_bytes()
 }
 
 /// What lent buffers hold before: another number at each place, or the same in long ones.

@@ -3,17 +3,12 @@
 mod common;
 
 use common::{column, draw_column, draw_n, draw_series, look_through, made};
-use second::hours::GAP;
+use second::printer::hour_lines;
 use second::random::Random;
 use second::{edges, finished, print};
 
 fn printed(input: impl AsRef<[u8]>) -> String {
     String::from_utf8(print(input.as_ref())).expect("the printer prints plain text")
-}
-
-fn written(readings: &[i32]) -> String {
-    let line = |&reading: &i32| if reading == GAP { String::from("-\n") } else { format!("{reading}\n") };
-    readings.iter().map(line).collect()
 }
 
 #[test]
@@ -34,7 +29,7 @@ fn columns_are_a_look_through_the_hours() {
                 None => format!("{k} - - - - {count}\n"),
             };
         }
-        let input = format!("{a} {b} {w}\n{}", written(&table.readings));
+        let input = format!("{a} {b} {w}\n{}", hour_lines(&table.readings));
         assert_eq!(printed(&input), expected, "seed {seed}, {input}");
     }
 }

@@ -1,17 +1,17 @@
-//! The stored vectors, of `crates/vectors`, `crates/record_vectors` and `crates/column_vectors`, are what
-//! `second vectors` writes.
+//! The stored vectors, of `crates/vectors`, `crates/record_vectors`, `crates/column_vectors` and
+//! `crates/printer_vectors`, are what `second vectors` writes.
 
 use std::collections::{BTreeMap, BTreeSet};
 
-use second::vectors::{columns, records, tables, written, Vector};
-use second::{stopped, turn_back, Column, Shape};
+use second::vectors::{columns, printer, records, tables, written, Vector};
+use second::{print, stopped, turn_back, Column, Shape};
 
 /// The programs that read them have room for so many bytes.
 const MOST_BYTES: usize = 1_048_576;
 
-fn stored(program: &str, name: &str) -> String {
+fn stored(program: &str, name: &str) -> Vec<u8> {
     let path = format!("{}/../crates/{program}/{name}", env!("CARGO_MANIFEST_DIR"));
-    std::fs::read_to_string(&path).unwrap_or_else(|error| panic!("{path}: {error}"))
+    std::fs::read(&path).unwrap_or_else(|error| panic!("{path}: {error}"))
 }
 
 #[test]
@@ -37,7 +37,7 @@ fn assert_outcomes(outcomes: &BTreeMap<String, usize>, calls: &[(&str, &[u8])], 
 
 #[test]
 fn every_outcome_of_every_call_is_there() {
-    let [of_tables, of_records, of_columns] = written().map(|files| files.outcomes);
+    let [of_tables, of_records, of_columns, of_printer] = written().map(|files| files.outcomes);
     assert_outcomes(&of_tables, &[("make", &[1, 2, 3]), ("turn_back", &[1, 3, 4])], 10);
     let opening = [1, 8, 9, 10, 11];
     let calls: [(&str, &[u8]); 5] = [
@@ -56,6 +56,7 @@ fn every_outcome_of_every_call_is_there() {
         ("day_change", &[1, 3, 4, 5]),
     ];
     assert_outcomes(&of_columns, &calls, 5);
+    assert_outcomes(&of_printer, &[("print", &[12, 1, 2, 5, 6])], 20);
     let levels: Vec<&str> = of_tables.keys().map(String::as_str).filter(|name| name.starts_with("level")).collect();
     assert_eq!(levels, ["level found", "level of length 0"]);
 }
@@ -177,4 +178,72 @@ fn columns_without_an_hour_and_without_a_reading_are_there() {
         }
     }
     assert!(no_hour >= 20 && no_reading >= 20, "{no_hour} {no_reading}");
+}
+
+/// Takes apart the text that the program of the printer reads, by what is told of it alone.
+fn taken_apart(mut text: &[u8]) -> Vec<(Vec<u8>, usize)> {
+    let mut calls = Vec::new();
+    while !text.is_empty() {
+        let end = text.iter().position(|&byte| byte == b'\n').expect("a line");
+        let head = std::str::from_utf8(&text[..end]).expect("two numbers");
+        let (length, piece) = head.split_once(' ').expect("two numbers");
+        let (length, piece): (usize, usize) = (length.parse().expect("a number"), piece.parse().expect("a number"));
+        let (input, after) = text[end + 1..].split_at(length);
+        calls.push((input.to_vec(), piece));
+        text = after;
+    }
+    calls
+}
+
+#[test]
+fn the_inputs_of_the_printer_can_be_taken_apart() {
+    let input = stored("printer_vectors", "stdin");
+    assert!(input.len() < 1_000_000);
+    let calls = taken_apart(&input);
+    let outputs: Vec<u8> = calls.iter().flat_map(|(input, _)| [&print(input)[..], b"\n"].concat()).collect();
+    assert!(outputs == stored("printer_vectors", "stdout"));
+    assert!(calls.iter().all(|&(_, piece)| piece > 0));
+}
+
+/// Every input but the long ones is handed over byte by byte, and every one that is short, with little printed for it,
+/// in pieces of each size; no input stands twice.
+#[test]
+fn the_inputs_of_the_printer_come_in_pieces() {
+    let mut pieces: BTreeMap<Vec<u8>, Vec<usize>> = BTreeMap::new();
+    for printer::Call { input, piece } in printer::calls() {
+        pieces.entry(input).or_default().push(piece);
+    }
+    assert_eq!(pieces.len(), printer::inputs().len());
+    for (input, sizes) in &pieces {
+        let short = input.len() < 200 && print(input).len() < 500;
+        let expected: Vec<usize> = [1, 2, 3, 7].into_iter().filter(|&size| size < input.len()).collect();
+        assert!(!short || sizes.starts_with(&expected), "{sizes:?}");
+        assert!(!short || sizes.iter().any(|&size| size >= input.len()), "{sizes:?}");
+        assert!(input.len() >= 20_000 || print(input).len() >= 20_000 || sizes.contains(&1), "{sizes:?}");
+    }
+    let long = |sizes: &Vec<usize>| if sizes.len() == 1 { Some(sizes[0]) } else { None };
+    let of_long: BTreeSet<usize> =
+        pieces.iter().filter(|(input, _)| input.len() > 30_000).filter_map(|(_, sizes)| long(sizes)).collect();
+    assert!(of_long.into_iter().eq([1, 7, 4_096, 1_000_000]));
+}
+
+/// The bytes of every sort of line, the numbers of lines and hours past 16 bits, and the longest series in the most
+/// columns are among the inputs of the printer.
+#[test]
+fn the_inputs_of_the_printer_reach_the_bounds() {
+    let inputs = printer::inputs();
+    let printed: Vec<String> = inputs.iter().map(|input| String::from_utf8(print(input)).unwrap()).collect();
+    assert!(printed.iter().filter(|text| text.lines().count() == 4_097).count() >= 3);
+    let refused: BTreeSet<&str> = printed.iter().map(|text| text.trim_end()).collect();
+    for text in ["refused 12 at 1", "refused 12 at 16386", "refused 12 at 16392", "refused 12 at 65538"] {
+        assert!(refused.contains(text), "{text}");
+    }
+    assert!(refused.contains("refused 2 at 16383") && refused.contains("refused 2 at 0"));
+    let lines = |input: &Vec<u8>| input.split(|&byte| byte == b'\n').map(<[u8]>::len).collect::<Vec<_>>();
+    let of_first: BTreeSet<usize> = inputs.iter().map(|input| lines(input)[0]).collect();
+    let of_hours: BTreeSet<usize> = inputs.iter().flat_map(|input| lines(input).split_off(1)).collect();
+    for length in (0..=9).chain(16..=20).chain([5_000]) {
+        assert!(of_hours.contains(&length), "{length}");
+        assert!(of_first.contains(&length), "{length}");
+    }
 }

@@ -118,7 +118,7 @@ fn numbers(call: i64, n: u64, Column { a, b, w, k }: Column) -> Vec<i64> {
 }
 
 impl Vector for Call {
-    fn lines(&self) -> String {
+    fn lines(&self) -> Vec<u8> {
         match self {
             Call::Edges { n, column } => lines(&[numbers(1, *n, *column)]),
             Call::Stopped { table, column, depth } => {
@@ -138,7 +138,7 @@ impl Vector for Call {
         }
     }
 
-    fn answer(self) -> (String, String) {
+    fn answer(self) -> (String, Vec<u8>) {
         match self {
             Call::Edges { n, column } => {
                 let answered = edges(n, column).map(|hours| vec![hours.first as i64, hours.end as i64]);

@@ -53,7 +53,7 @@ pub enum Call {
 }
 
 impl Vector for Call {
-    fn lines(&self) -> String {
+    fn lines(&self) -> Vec<u8> {
         match self {
             Call::Write { n, coefficients, codes, record } => {
                 lines(&[vec![1, *n as i64], lent(coefficients), lent(codes), lent(record)])
@@ -67,7 +67,7 @@ impl Vector for Call {
         }
     }
 
-    fn answer(self) -> (String, String) {
+    fn answer(self) -> (String, Vec<u8>) {
         match self {
             Call::Write { n, coefficients, codes, mut record } => {
                 let answered = write_record(n, &coefficients, &codes, &mut record).map(|bytes| vec![bytes as i64]);

@@ -46,7 +46,7 @@ pub enum Call {
 }
 
 impl Vector for Call {
-    fn lines(&self) -> String {
+    fn lines(&self) -> Vec<u8> {
         match self {
             Call::Make { n, readings, coefficients, codes } => {
                 lines(&[vec![1, *n as i64], lent(readings), lent(coefficients), lent(codes)])
@@ -58,7 +58,7 @@ impl Vector for Call {
         }
     }
 
-    fn answer(self) -> (String, String) {
+    fn answer(self) -> (String, Vec<u8>) {
         match self {
             Call::Make { n, readings, mut coefficients, mut codes } => {
                 let answered = make(n, &readings, &mut coefficients, &mut codes);
