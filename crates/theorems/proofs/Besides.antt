@@ -1,29 +1,31 @@
--- What is proved beside the demands: going there and back again, single coefficients, the day change, and how the
--- answers of the parts of a window make up the whole. Assumes nothing.
-use mathlib.Core.{Path._≡_, Bool.false, List.List}
-use Prim.Native.Nat.{ℕ, _-_, _*_, _/_, _≤_, _<_}
+-- What is proved beside the demands: going there and back again, single coefficients, the day change, how the answers
+-- of the parts of a window make up the whole, and what the printer prints. Assumes nothing.
+use mathlib.Core.{Path._≡_, Bool.false, List.List, List.map, List.flatten}
+use Prim.Native.Nat.{ℕ, _-_, _*_, _/_, _^_, _≤_, _<_}
 use lib.{IntN.ℤ, IntN.pos, ListN.length, ListN.getD, ListN.take}
 use Rattle.words.specs.Constants.{dayHours}
 use Rattle.words.specs.declared.{Taking.Taking, Writing.Writing, Unpacking.Unpacking, Asking.Asking}
-use Rattle.om3.specs.{Series.Series, Series.P, Series.hoursFrom}
-use Rattle.om3.specs.{Table.Table, Table.HasTable, Table.lent, Refusals.tableShort, Calls.filled, Checks.passes}
+use Rattle.words.specs.declared.{Finished.Finished, HourLine.HourLine}
+use Rattle.om3.specs.{Series.Series, Series.levels, Series.P, Series.hoursFrom}
+use Rattle.om3.specs.{Table.Table, Table.tableOf, Table.HasTable, Table.lent}
+use Rattle.om3.specs.{Refusals.tableShort, Calls.filled, Checks.passes}
 use Rattle.om3.specs.Record.{Bytes, hoursIn, tableIn, openingChecks, askedRecord}
-use Rattle.om3.specs.{Columns.columnHours, Joined.joined, Looked.lookThrough}
+use Rattle.om3.specs.{Columns.column, Columns.columnHours, Finished.finished, Joined.joined, Looked.lookThrough}
+use Rattle.om3.specs.{Drawn.finishedCount, Printed.gramsOf, Printed.printingChecks}
 use Rattle.om3.specs.Days.{day, changeOf, dayChange}
 use Rattle.om3.proofs as om3
 use Rattle.making.specs.Making.{Made}
 use Rattle.turning.specs.Turning.{TurnedBack}
 use Rattle.writing.specs.Writing.{RecordWritten}
 use Rattle.reading.specs.Reading.{RecordRead}
-use Rattle.theorems.proofs.Calls as calls
-use Rattle.theorems.proofs.Records as records
+use Rattle.theorems.proofs as theorems
 
 -- Making after turning back gives the same table.
 make-after-turn-back : (n : ℕ) (cs : List ℤ) (ks : List ℕ) (out out′ : List ℤ)
     → TurnedBack n cs ks out out′ Taking.Taken → (cs₁ : List ℤ) (ks₁ : List ℕ) → tableShort n (lent cs₁ ks₁) ≡ false
     → (cs₂ : List ℤ) (ks₂ : List ℕ) (r : Taking) → Made n out′ cs₁ ks₁ cs₂ ks₂ r
     → (r ≡ Taking.Taken) × (cs₂ ≡ filled (take (P n) cs) cs₁) × (ks₂ ≡ filled (take (P n / 2) ks) ks₁)
-make-after-turn-back = calls.made-after
+make-after-turn-back = theorems.Calls.made-after
 
 -- One table of n hours has one record.
 one-record : (r q : List ℕ) → Bytes r → Bytes q → openingChecks r ≡ passes → openingChecks q ≡ passes
@@ -36,18 +38,18 @@ read-after-write : (n : ℕ) (cs : List ℤ) (ks out out′ : List ℕ) (b : ℕ
     → (cs₁ : List ℤ) (ks₁ : List ℕ) → tableShort n (lent cs₁ ks₁) ≡ false
     → (cs₂ : List ℤ) (ks₂ : List ℕ) (u : Unpacking) → RecordRead (take b out′) cs₁ ks₁ cs₂ ks₂ u
     → (u ≡ Unpacking.Hours n) × (cs₂ ≡ filled (take (P n) cs) cs₁) × (ks₂ ≡ filled (take (P n / 2) ks) ks₁)
-read-after-write = records.read-after-write
+read-after-write = theorems.Records.read-after-write
 
 module _ (r : List ℕ) (cs : List ℤ) (ks : List ℕ) (cs′ : List ℤ) (ks′ : List ℕ) (n : ℕ)
     (done : RecordRead r cs ks cs′ ks′ (Unpacking.Hours n)) where
   -- Writing after reading gives the same record.
   write-after-read : Bytes r → (out out′ : List ℕ) (w : Writing) → length r ≤ length out
       → RecordWritten n cs′ ks′ out out′ w → (w ≡ Writing.Bytes (length r)) × (out′ ≡ filled r out)
-  write-after-read = records.write-after-read r cs ks cs′ ks′ n done
+  write-after-read = theorems.Records.write-after-read r cs ks cs′ ks′ n done
 
   -- A coefficient asked for is the one that was unpacked.
   asked-is-unpacked : (p : ℕ) → p < P n → askedRecord r p ≡ Asking.Coefficient (getD cs′ p (pos 0))
-  asked-is-unpacked = records.asked-read r cs ks cs′ ks′ n done
+  asked-is-unpacked = theorems.Records.asked-read r cs ks cs′ ks′ n done
 
 -- From a table that a series has, the change of a day is that of a look through its hours.
 day-change : (n : ℕ) (s : List ℤ) (t : Table) → Series n s → HasTable n s t → (d : ℕ) → dayHours * d < n
@@ -59,3 +61,20 @@ look-joined : (n : ℕ) (s : List ℤ) (f g h : ℕ) → f ≤ g → g ≤ h
     → lookThrough n s (hoursFrom f (h - f))
     ≡ joined (lookThrough n s (hoursFrom f (g - f))) (lookThrough n s (hoursFrom g (h - g)))
 look-joined = om3.LookedThrough.look-through-cut
+
+-- The printer's calls, by their contracts, print what document 01 prints for the text, however it is cut into pieces,
+-- if it has fewer than 2^64 − 1 bytes.
+printer : (pieces : List (List ℕ)) → length (flatten pieces) < 2 ^ 64 - 1 → theorems.Printer.Prints pieces
+printer = theorems.Printer.prints-pieces
+
+-- The hours of a text that is taken are a series; each line that is printed is that of an answer, the one that a look
+-- through the column's hours gives, with the defined count.
+module _ (a b w : ℕ) (hours : List HourLine) (ok : printingChecks a b w hours ≡ passes) where
+  printed-series : Series (length hours) (map gramsOf hours)
+  printed-series = om3.PrintedColumns.text-series a b w hours ok
+
+  printed-columns : (k : ℕ) → k < w
+      → (let n = length hours in let s = map gramsOf hours in
+      let t = tableOf (levels n) n s in let x = column a b w k in
+      finished n t a b w k ≡ Finished.Answered (lookThrough n s (columnHours x)) (finishedCount n t x))
+  printed-columns = om3.PrintedColumns.columns-answered a b w hours ok

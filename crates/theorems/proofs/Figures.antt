@@ -16,7 +16,7 @@ use Rattle.om3.specs.Sound.{soundTable}
 use Rattle.om3.specs.Refusals.{tableShort, examineTable}
 use Rattle.om3.specs.Record.{Bytes, InThree, threeBytes, signedFrom, recordSize, recordOf}
 use Rattle.om3.specs.Record.{hoursIn, tableIn, openingChecks}
-use Rattle.om3.specs.Numbers.{numbers, unmarked, outside, further}
+use Rattle.om3.specs.Numbers.{numbers, unmarked, outside, further, printing}
 use Rattle.om3.proofs.Levels as levels-laws
 use Rattle.om3.proofs.Examined as examined
 use Rattle.om3.proofs.Demand2 as demand2
@@ -26,7 +26,7 @@ use Rattle.om3.proofs.RecordsOpened.{WellFormed}
 use Rattle.om3.proofs.RecordsOpened as opened
 use Rattle.om3.proofs.RecordsForth as forth
 use Rattle.om3.proofs.RecordsTaken as taken
-use Rattle.om3.proofs.Numbers.{Holds, numbers-hold, unmarked-hold, outside-hold, further-hold}
+use Rattle.om3.proofs.Numbers.{Holds, numbers-hold, unmarked-hold, outside-hold, further-hold, printing-holds}
 
 -- P is the smallest power of two that is at least n and at least 2.
 P-at-least-n : (n : ℕ) → n ≤ largestHours → n ≤ P n
@@ -106,3 +106,7 @@ outside-numbers = outside-hold
 
 further-numbers : Holds further
 further-numbers = further-hold
+
+-- Document 01's example of the printer, byte by byte, and texts where it leaves room.
+printed-texts : Holds printing
+printed-texts = printing-holds

@@ -3,7 +3,7 @@
 --
 --   One C      the contract C allows one result: the lent buffers after the call, if any, and the answer
 --   EachCall   the contract of each call allows one result; EachTold, that of each call of the boundary
-use mathlib.Core.Path.{_≡_, refl, sym, _∙_}
+use mathlib.Core.Path.{_≡_, refl, sym, ap, _∙_}
 use mathlib.Core.List.{List}
 use Prim.Native.Nat.{ℕ}
 use lib.IntN.{ℤ}
@@ -33,6 +33,9 @@ use Rattle.turning.specs.declared.Verdict.{Verdict}
 use Rattle.turning.specs.Turning.{checkOf, TurnedBack}
 use Rattle.writing.specs.Writing.{RecordWritten}
 use Rattle.reading.specs.Reading.{RecordRead}
+use Rattle.parsing.specs.declared.Text.{Text}
+use Rattle.parsing.specs.Reading.{progress, begun, readOn, closed}
+use Rattle.printing.specs.Printing.{room, PutsShort, printedAfter}
 use Rattle.sagivelume.specs.declared.Told.{Told}
 use Rattle.sagivelume.specs.declared.ToldBytes.{ToldBytes}
 use Rattle.sagivelume.specs.declared.ToldHours.{ToldHours}
@@ -99,6 +102,14 @@ pub record EachCall : Type 0 where
   pub finished-column : (n : ℕ) (t : Table) (a b w k : ℕ) → One (λ (r : Finished). r ≡ finished n t a b w k)
   pub join : (a b : Answer) → One (λ (r : Answer). r ≡ joined a b)
   pub day-change : (n : ℕ) (t : Table) (d : ℕ) → One (λ (r : DayChange). r ≡ dayChange n t d)
+  -- The printer: reading a text piece by piece, with the lent buffers, and printing, with what it leaves there.
+  pub begin : One (λ (t : Text). t ≡ begun)
+  pub read : (t : Text) (line piece : List ℕ) (hours : List ℤ)
+      → One (λ (o : Text × List ℕ × List ℤ). progress (o .0) (o .1) (o .2) ≡ readOn (progress t line hours) piece)
+  pub close : (t : Text) (line : List ℕ) (hours : List ℤ)
+      → One (λ (o : Text × List ℤ). progress (o .0) line (o .1) ≡ closed (progress t line hours))
+  pub print : (t : Text) (hours : List ℤ) (out : List ℕ)
+      → One (λ (o : List ℕ × ℕ). PutsShort room 0 (printedAfter t hours) out (o .0) (o .1))
   -- The boundary's calls.
   pub told : EachTold
 
@@ -173,5 +184,14 @@ each-call =
       finished-column = λ n t a b w k. equal-once (finished n t a b w k);
       join = λ a b. equal-once (joined a b);
       day-change = λ n t d. equal-once (dayChange n t d);
+      begin = equal-once begun;
+      read = λ t line piece hours x y a b.
+          let e = by-equation a b in
+          three (ap (λ p. p .text) e) (ap (λ p. p .line) e) (ap (λ p. p .hours) e);
+      close = λ t line hours x y a b.
+          let e = by-equation a b in
+          two (ap (λ p. p .text) e) (ap (λ p. p .hours) e);
+      print = λ t hours out x y a b.
+          two (by-equation (a .puts .buffer) (b .puts .buffer)) (by-equation (a .puts .next) (b .puts .next));
       told = each-told;
     }
