@@ -4,3 +4,4 @@ pub mod Sums
 pub mod Widths
 pub mod Choices
 pub mod Rules
+pub mod Wider

@@ -1,37 +1,27 @@
 -- A number of 32 bits is the same in 64, where 0 minus it fits; its size is not negative. Assumes nothing.
-use mathlib.Core.Path.{_≡_, _∙_}
-use lib.IntN.{ℤ}
-use mir.Syntax.{w32, w64}
-use mir.Val.{SFits, toZ, ofZ}
-use mir.Facts.{toZ-ofZ}
 use borrow.Author.Needs.{needs}
 use Rattle.signed.proofs.Rules.{signed}
-use Rattle.signed.proofs.Widths.{back, sfits-parts}
+use Rattle.signed.proofs.Widths.{sfits-parts}
+use Rattle.signed.proofs.Wider.{wider, reads-wide}
 use Rattle.lines.proofs.size_of.Statement.{statement}
 use Rattle.lines.proofs.size_of.Tie as tie
-
-wider : (x : ℤ) → SFits w32 x → SFits w64 (toZ w32 (ofZ w32 x))
-wider x h = omega (signed, back h, sfits-parts h)
-
-read : (x : ℤ) → SFits w32 x → toZ w64 (ofZ w64 (toZ w32 (ofZ w32 x))) ≡ x
-read x h = toZ-ofZ (wider x h) ∙ toZ-ofZ h
 
 cast-wide : tie.Need-cast-wide
 cast-wide c = wider (c .args .x) (c .fits .x)
 
 sub-result : tie.Need-sub-result
-sub-result c = omega (signed, read (c .before .args .x) (c .before .fits .x), sfits-parts (c .before .fits .x))
+sub-result c = omega (signed, reads-wide (c .before .args .x) (c .before .fits .x), sfits-parts (c .before .fits .x))
 
 cast-result : tie.Need-cast-result
 cast-result c =
     let fits = sub-result c in
-    omega (signed, read (c .before .args .x) (c .before .fits .x), sfits-parts (c .before .fits .x))
+    omega (signed, reads-wide (c .before .args .x) (c .before .fits .x), sfits-parts (c .before .fits .x))
 
 returns : tie.Need-returns
 returns c = search needs
 
 cast-result-2 : tie.Need-cast-result-2
-cast-result-2 c = omega (signed, read (c .before .args .x) (c .before .fits .x), sfits-parts (c .before .fits .x))
+cast-result-2 c = omega (signed, reads-wide (c .before .args .x) (c .before .fits .x), sfits-parts (c .before .fits .x))
 
 returns-2 : tie.Need-returns-2
 returns-2 c = search needs

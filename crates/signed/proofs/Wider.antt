@@ -1,0 +1,14 @@
+-- A number of 32 bits is the same in 64. Assumes nothing.
+use mathlib.Core.Path.{_≡_, _∙_}
+use lib.IntN.{ℤ}
+use mir.Syntax.{w32, w64}
+use mir.Val.{SFits, toZ, ofZ}
+use mir.Facts.{toZ-ofZ}
+use Rattle.signed.proofs.Widths.{back, sfits-parts}
+use Rattle.signed.proofs.Rules.{signed}
+
+pub wider : (x : ℤ) → SFits w32 x → SFits w64 (toZ w32 (ofZ w32 x))
+wider x h = omega (signed, back h, sfits-parts h)
+
+pub reads-wide : (x : ℤ) → SFits w32 x → toZ w64 (ofZ w64 (toZ w32 (ofZ w32 x))) ≡ x
+reads-wide x h = toZ-ofZ (wider x h) ∙ toZ-ofZ h
