@@ -19,7 +19,7 @@
 //
 // What the calls answer is stated and proved where they stand. As in `lines`, which reads and writes the numbers, the
 // contracts here say no more than safety needs.
-use sagivelume::ToldAnswer;
+use told::columns::ToldAnswer;
 
 // A column of the input: the hours of the series, the window, its columns and the number of this one; and where the
 // number after it begins.
@@ -132,8 +132,15 @@ fn show_finished(coefficients: &[i32], codes: &[u8], asked: Asked) {
     lines::print_head(told.number, told.place);
     lines::print_more(told.count);
     lines::print_end();
-    let answer = told.answer;
-    show_answer(answer);
+    show_answer(ToldAnswer {
+        found: told.found,
+        first_hour: told.first_hour,
+        last_hour: told.last_hour,
+        first: told.first,
+        last: told.last,
+        low: told.low,
+        high: told.high,
+    });
 }
 
 // Asks for the change of a day and writes the answer.

@@ -36,20 +36,21 @@ use Rattle.reading.specs.Reading.{RecordRead}
 use Rattle.parsing.specs.declared.Text.{Text}
 use Rattle.parsing.specs.Reading.{progress, begun, readOn, closed}
 use Rattle.printing.specs.Printing.{room, PutsShort, printedAfter}
-use Rattle.sagivelume.specs.declared.Told.{Told}
-use Rattle.sagivelume.specs.declared.ToldBytes.{ToldBytes}
-use Rattle.sagivelume.specs.declared.ToldHours.{ToldHours}
-use Rattle.sagivelume.specs.declared.ToldRecord.{ToldRecord}
-use Rattle.sagivelume.specs.declared.ToldCoefficient.{ToldCoefficient}
-use Rattle.sagivelume.specs.declared.ToldColumn.{ToldColumn}
-use Rattle.sagivelume.specs.declared.ToldRanges.{ToldRanges}
-use Rattle.sagivelume.specs.declared.ToldAnswer.{ToldAnswer}
-use Rattle.sagivelume.specs.declared.ToldFinished.{ToldFinished}
-use Rattle.sagivelume.specs.declared.ToldChange.{ToldChange}
-use Rattle.sagivelume.specs.declared.Places.{Places}
-use Rattle.sagivelume.specs.Boundary.{placesOf, openingTold, askingTold, MakeTold, TurnBackTold}
-use Rattle.sagivelume.specs.Boundary.{WriteTold, ReadTold}
-use Rattle.sagivelume.specs.Columns.{edgesTold, stoppedTold, answerTold, answerIn, finishedTold, changeTold}
+use Rattle.told.specs.declared.tables.Told.{Told}
+use Rattle.told.specs.declared.records.ToldBytes.{ToldBytes}
+use Rattle.told.specs.declared.records.ToldHours.{ToldHours}
+use Rattle.told.specs.declared.records.ToldRecord.{ToldRecord}
+use Rattle.told.specs.declared.records.ToldCoefficient.{ToldCoefficient}
+use Rattle.told.specs.declared.columns.ToldColumn.{ToldColumn}
+use Rattle.told.specs.declared.columns.ToldRanges.{ToldRanges}
+use Rattle.told.specs.declared.columns.ToldAnswer.{ToldAnswer}
+use Rattle.told.specs.declared.columns.ToldFinished.{ToldFinished}
+use Rattle.told.specs.declared.columns.ToldChange.{ToldChange}
+use Rattle.told.specs.declared.tables.Places.{Places}
+use Rattle.told.specs.Tables.{placesOf}
+use Rattle.told.specs.Records.{openingTold, askingTold}
+use Rattle.told.specs.Columns.{edgesTold, stoppedTold, answerTold, answerIn, finishedTold, changeTold}
+use Rattle.sagivelume.specs.Boundary.{MakeTold, TurnBackTold, WriteTold, ReadTold}
 
 -- Two results that the contract C allows are equal.
 abbrev pub One : {A : Type 0} → (A → Type 0) → Type 0

@@ -22,10 +22,12 @@ use Rattle.making.specs.Making.{Made}
 use Rattle.turning.specs.Turning.{TurnedBack}
 use Rattle.writing.specs.Writing.{RecordWritten}
 use Rattle.reading.specs.Reading.{RecordRead}
-use Rattle.sagivelume.specs.declared.Told.{Told}
-use Rattle.sagivelume.specs.declared.ToldBytes.{ToldBytes}
-use Rattle.sagivelume.specs.declared.ToldHours.{ToldHours}
-use Rattle.sagivelume.specs.Boundary.{toldOf, writingTold, unpackingTold, MakeTold, TurnBackTold, WriteTold, ReadTold}
+use Rattle.told.specs.declared.tables.Told.{Told}
+use Rattle.told.specs.declared.records.ToldBytes.{ToldBytes}
+use Rattle.told.specs.declared.records.ToldHours.{ToldHours}
+use Rattle.told.specs.Tables.{takingTold}
+use Rattle.told.specs.Records.{writingTold, unpackingTold}
+use Rattle.sagivelume.specs.Boundary.{MakeTold, TurnBackTold, WriteTold, ReadTold}
 
 pub record NothingWritten : Type 0 where
   pub make : (n : ℕ) (s cs cs′ : List ℤ) (ks ks′ : List ℕ) (why : Refusal)
@@ -56,7 +58,7 @@ reading-refuses passes n why e = cc
 reading-refuses (refuses r) n why e = cc
 
 -- So was one that tells a number other than 0.
-taking-told : (c : Check) → ¬ (toldOf (takingBy c) .number ≡ 0) → (why : Refusal) × (c ≡ refuses why)
+taking-told : (c : Check) → ¬ (takingTold (takingBy c) .number ≡ 0) → (why : Refusal) × (c ≡ refuses why)
 taking-told passes h = absurd (h refl)
 taking-told (refuses r) h = (r, refl)
 

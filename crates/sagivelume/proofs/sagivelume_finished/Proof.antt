@@ -1,18 +1,18 @@
 -- The call is handed on, with its answer made flat. Assumes nothing.
 use mathlib.Core.Path.{ap, _∙_}
 use borrow.Author.Needs.{needs}
-use Rattle.sagivelume.specs.Columns.{finishedTold}
+use Rattle.told.specs.Columns.{finishedTold}
 use Rattle.sagivelume.proofs.sagivelume_finished.Statement.{statement}
 use Rattle.sagivelume.proofs.sagivelume_finished.Tie as tie
 
 finished-requires : tie.Need-finished-requires
 finished-requires c κs = search needs
 
-told-finished-requires : tie.Need-told-finished-requires
-told-finished-requires c κs = search needs
+of-finished-requires : tie.Need-of-finished-requires
+of-finished-requires c κs = search needs
 
 returns : tie.Need-returns
-returns c = c .told-finished .ensures ∙ ap finishedTold (c .before .finished .ensures)
+returns c = c .of-finished .ensures ∙ ap finishedTold (c .before .finished .ensures)
 
 pub sagivelume-finished-spec : {M : Type 1} → statement M
-sagivelume-finished-spec = tie.close (tie.spec finished-requires told-finished-requires returns)
+sagivelume-finished-spec = tie.close (tie.spec finished-requires of-finished-requires returns)

@@ -7,8 +7,8 @@ use Rattle.sagivelume.proofs.Handing.{make-told}
 make-requires : tie.Need-make-requires
 make-requires c κs = search needs
 
-told-of-requires : tie.Need-told-of-requires
-told-of-requires c κs = search needs
+of-taking-requires : tie.Need-of-taking-requires
+of-taking-requires c κs = search needs
 
 same-length : tie.Need-same-length
 same-length c = search needs
@@ -17,8 +17,8 @@ same-length-2 : tie.Need-same-length-2
 same-length-2 c = search needs
 
 returns : tie.Need-returns
-returns c = make-told _ _ _ _ _ _ _ _ (c .before .before .before .before .make .ensures) (c .told-of .ensures)
+returns c = make-told _ _ _ _ _ _ _ _ (c .before .before .before .before .make .ensures) (c .of-taking .ensures)
 
 pub sagivelume-make-spec : {M : Type 1} → statement M
 sagivelume-make-spec =
-    tie.close (tie.spec make-requires told-of-requires same-length same-length-2 returns)
+    tie.close (tie.spec make-requires of-taking-requires same-length same-length-2 returns)

@@ -7,8 +7,8 @@ use Rattle.sagivelume.proofs.Handing.{read-told}
 read-record-requires : tie.Need-read-record-requires
 read-record-requires c κs = search needs
 
-told-unpacking-requires : tie.Need-told-unpacking-requires
-told-unpacking-requires c κs = search needs
+of-unpacking-requires : tie.Need-of-unpacking-requires
+of-unpacking-requires c κs = search needs
 
 same-length : tie.Need-same-length
 same-length c = search needs
@@ -18,9 +18,9 @@ same-length-2 c = search needs
 
 returns : tie.Need-returns
 returns c =
-    read-told _ _ _ _ _ _ _ (c .before .before .before .before .read-record .ensures) (c .told-unpacking .ensures)
+    read-told _ _ _ _ _ _ _ (c .before .before .before .before .read-record .ensures) (c .of-unpacking .ensures)
 
 pub sagivelume-read-record-spec : {M : Type 1} → statement M
 sagivelume-read-record-spec =
     tie.close
-    (tie.spec read-record-requires told-unpacking-requires same-length same-length-2 returns)
+    (tie.spec read-record-requires of-unpacking-requires same-length same-length-2 returns)

@@ -7,15 +7,15 @@ use Rattle.sagivelume.proofs.Handing.{turn-back-told}
 turn-back-requires : tie.Need-turn-back-requires
 turn-back-requires c κs = search needs
 
-told-of-requires : tie.Need-told-of-requires
-told-of-requires c κs = search needs
+of-taking-requires : tie.Need-of-taking-requires
+of-taking-requires c κs = search needs
 
 same-length : tie.Need-same-length
 same-length c = search needs
 
 returns : tie.Need-returns
-returns c = turn-back-told _ _ _ _ _ _ _ (c .before .before .turn-back .ensures) (c .told-of .ensures)
+returns c = turn-back-told _ _ _ _ _ _ _ (c .before .before .turn-back .ensures) (c .of-taking .ensures)
 
 pub sagivelume-turn-back-spec : {M : Type 1} → statement M
 sagivelume-turn-back-spec =
-    tie.close (tie.spec turn-back-requires told-of-requires same-length returns)
+    tie.close (tie.spec turn-back-requires of-taking-requires same-length returns)

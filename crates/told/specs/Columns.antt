@@ -1,0 +1,111 @@
+-- What the calls of columns tell at the boundary: their answers as flat structs, 0 in every value of a refusal. Cited by
+-- the contracts of this crate and of the boundary. Assumes nothing.
+--
+--   edgesTold e      the first hour and the end of a column
+--   stoppedTold s    the outer and the inner range, each as its low and its high, and the count
+--   answerTold a     whether there is a reading, and first and last with their hours, low and high
+--   withCount        an answer with a number, a place and a count beside it
+--   finishedTold f   a finished answer and its count
+--   changeTold c     whether the day has a reading, and the change in grams
+--   answerIn t       the answer that a caller hands in
+use mathlib.Core.Bool.{cond}
+use Prim.Native.Nat.{ℕ}
+use lib.Dec.{eqb}
+use lib.IntN.{pos}
+use Rattle.words.specs.Said.{numberOf, placeOf, lowOf, highOf}
+use Rattle.words.specs.declared.Answer.{Answer}
+use Rattle.words.specs.declared.DayChange.{DayChange}
+use Rattle.words.specs.declared.Edges.{Edges}
+use Rattle.words.specs.declared.Finished.{Finished}
+use Rattle.words.specs.declared.Stopped.{Stopped}
+use Rattle.om3.specs.Series.{hour}
+use Rattle.told.specs.declared.columns.ToldColumn.{ToldColumn}
+use Rattle.told.specs.declared.columns.ToldRanges.{ToldRanges}
+use Rattle.told.specs.declared.columns.ToldAnswer.{ToldAnswer}
+use Rattle.told.specs.declared.columns.ToldFinished.{ToldFinished}
+use Rattle.told.specs.declared.columns.ToldChange.{ToldChange}
+
+-- Number 0 at place 0 is a column, else the refusal with its place.
+abbrev pub edgesTold : Edges → ToldColumn
+edgesTold (Edges.Hours x) = record { number = 0; place = 0; from = x .from .0; upto = x .upto .0 }
+edgesTold (Edges.Refused why) = record { number = numberOf why; place = placeOf why; from = 0; upto = 0 }
+
+-- An absent range has the gap mark as its low and as its high.
+abbrev pub stoppedTold : Stopped → ToldRanges
+stoppedTold (Stopped.Ranges outer inner count) = record {
+  number = 0;
+  place = 0;
+  «outer_low» = lowOf outer;
+  «outer_high» = highOf outer;
+  «inner_low» = lowOf inner;
+  «inner_high» = highOf inner;
+  count = count;
+}
+stoppedTold (Stopped.Refused why) = record {
+  number = numberOf why;
+  place = placeOf why;
+  «outer_low» = pos 0;
+  «outer_high» = pos 0;
+  «inner_low» = pos 0;
+  «inner_high» = pos 0;
+  count = 0;
+}
+
+-- 1 in `found` if there is a reading; without one all else is 0.
+abbrev pub answerTold : Answer → ToldAnswer
+answerTold Answer.NoReading = record {
+  found = 0;
+  «first_hour» = 0;
+  «last_hour» = 0;
+  first = pos 0;
+  last = pos 0;
+  low = pos 0;
+  high = pos 0;
+}
+answerTold (Answer.Found s) = record {
+  found = 1;
+  «first_hour» = s .first .hour .0;
+  «last_hour» = s .last .hour .0;
+  first = s .first .grams;
+  last = s .last .grams;
+  low = s .low;
+  high = s .high;
+}
+
+-- The fields of an answer, with the number and the place that are told and the count.
+abbrev pub withCount : ℕ → ℕ → ToldAnswer → ℕ → ToldFinished
+withCount number place a count = record {
+  number = number;
+  place = place;
+  found = a .found;
+  «first_hour» = a .«first_hour»;
+  «last_hour» = a .«last_hour»;
+  first = a .first;
+  last = a .last;
+  low = a .low;
+  high = a .high;
+  count = count;
+}
+
+-- A refusal is told with the answer of no reading and with count 0.
+abbrev pub finishedTold : Finished → ToldFinished
+finishedTold (Finished.Answered answer count) = withCount 0 0 (answerTold answer) count
+finishedTold (Finished.Refused why) = withCount (numberOf why) (placeOf why) (answerTold Answer.NoReading) 0
+
+-- 1 in `found` if the day has a reading; without one, or refused, the change is told as 0.
+abbrev pub changeTold : DayChange → ToldChange
+changeTold DayChange.NoReading = record { number = 0; place = 0; found = 0; grams = pos 0 }
+changeTold (DayChange.Grams grams) = record { number = 0; place = 0; found = 1; grams = grams }
+changeTold (DayChange.Refused why) = record { number = numberOf why; place = placeOf why; found = 0; grams = pos 0 }
+
+-- 0 in `found` is no reading, anything else a reading.
+abbrev pub answerIn : ToldAnswer → Answer
+answerIn t =
+    cond (eqb (t .found) 0) Answer.NoReading
+    (Answer.Found
+    (record {
+      first = record { hour = hour (t .«first_hour»); grams = t .first };
+      last = record { hour = hour (t .«last_hour»); grams = t .last };
+      low = t .low;
+      high = t .high;
+    }))

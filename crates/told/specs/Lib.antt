@@ -1,0 +1,4 @@
+-- What the boundary tells, in reading order.
+pub mod Tables
+pub mod Records
+pub mod Columns

@@ -1,0 +1,10 @@
+// Answers as the boundary tells them: flat structs of numbers, which C and Rust take by value. Each has the refusal's
+// number and its place first, 0 and 0 where the call is taken, and then the fields of the answer.
+pub mod columns;
+pub mod records;
+pub mod tables;
+
+// What stands for the refusal's number and place where a call is taken.
+const TAKEN: usize = 0;
+
+const NO_PLACE: usize = 0;
