@@ -1,16 +1,27 @@
-//! Links the archive of the proved store, `libsagivelume.a`. It lies in the repository's `target/staticlib`, or in the
-//! folder that the environment variable `SAGIVELUME_LIB` names, an absolute path.
+//! Links the archive of the proved store, `libsagivelume.a`. It lies in the folder that the environment variable
+//! `SAGIVELUME_LIB` names, an absolute path; else in `lib` beside this package, where it is taken away with it; else in
+//! the repository's `target/staticlib`.
 
 use std::env;
 use std::path::{Path, PathBuf};
 
 const FOLDER: &str = "SAGIVELUME_LIB";
+const ARCHIVE: &str = "libsagivelume.a";
+
+/// The folder of the archive.
+fn folder(package: &Path) -> PathBuf {
+    let beside = package.join("..").join("lib");
+    match env::var_os(FOLDER) {
+        Some(named) => PathBuf::from(named),
+        None if beside.join(ARCHIVE).is_file() => beside,
+        None => package.join("..").join("target").join("staticlib"),
+    }
+}
 
 fn main() {
     let package = env::var_os("CARGO_MANIFEST_DIR").expect("cargo sets it");
-    let folder = env::var_os(FOLDER)
-        .map_or_else(|| Path::new(&package).join("..").join("target").join("staticlib"), PathBuf::from);
-    let archive = folder.join("libsagivelume.a");
+    let folder = folder(Path::new(&package));
+    let archive = folder.join(ARCHIVE);
 
     println!("cargo::rerun-if-env-changed={FOLDER}");
     println!("cargo::rerun-if-changed={}", archive.display());

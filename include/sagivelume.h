@@ -1,0 +1,241 @@
+/*
+ * Sagivelume: the proved chart store for hive scales, called from C. Link libsagivelume.a.
+ *
+ * A series of n hours, 1 to 16,384, holds in each hour a reading, -1,000,000 to 1,000,000 grams, or a gap, 2,000,003.
+ * Its table has P coefficients and P/2 codes, where P is the smallest power of two that is at least n and at least 2.
+ * Its record has 7 + 3P + P/2 bytes. The greatest P is 16,384, so that buffers of 16,384 coefficients, 8,192 codes and
+ * 57,351 bytes serve every n.
+ *
+ * Every call ends with an answer, whatever the numbers and whatever the buffers hold. A buffer passes as a pointer and
+ * then its length in elements; a longer one than needed is taken, and what lies beyond is neither read nor written. The
+ * caller sees to what C cannot check: that the pointer is that of so many live elements, aligned and not null even if
+ * the length is 0, and that a buffer to be written overlaps no other of the call. No call keeps a pointer, allocates,
+ * or touches anything else, so that calls on different buffers may run at once.
+ *
+ * An answer begins with a refusal's number and its place, both 0 where the call is taken. A refused call writes
+ * nothing, and the other fields of its answer are 0. Where a call has several causes, the first in the order given with
+ * it is told.
+ *
+ *    number  cause                                                       place
+ *         1  n is 0 or over 16,384                                       0
+ *         2  an hour holds neither a reading nor a gap                   the first such hour
+ *         3  a buffer is shorter than needed                             0
+ *         4  the table is of no series of n hours                        the number of the node found unsound first,
+ *                                                                        0 for the root values
+ *         5  not a < b <= n, or the day begins at hour n or later        0
+ *         6  w is 0 or over 4,096, or the column is not below w          0
+ *         7  the depth is over l, where P is 2 to the power l            0
+ *         8  the bytes end before the record does                        0
+ *         9  the record's version is not 1                               0
+ *        10  the record's length field is not that of its n              0
+ *        11  bytes follow the record                                     0
+ *        13  the place asked for is not below the number of places       0
+ */
+#ifndef SAGIVELUME_H
+#define SAGIVELUME_H
+
+#include <stddef.h>
+#include <stdint.h>
+
+#ifdef __cplusplus
+extern "C" {
+#endif
+
+#define SAGIVELUME_LARGEST_HOURS 16384
+#define SAGIVELUME_LARGEST_READING 1000000
+#define SAGIVELUME_GAP 2000003
+#define SAGIVELUME_MOST_COLUMNS 4096
+
+/* Taken, or refused. */
+struct sagivelume_told {
+    size_t number;
+    size_t place;
+};
+
+/* Places of the lent coefficients: `length` of them from place `start` on. */
+struct sagivelume_places {
+    size_t start;
+    size_t length;
+};
+
+/* The bytes of the record that was written. */
+struct sagivelume_told_bytes {
+    size_t number;
+    size_t place;
+    size_t bytes;
+};
+
+/* The hours of the series whose record was read, n. */
+struct sagivelume_told_hours {
+    size_t number;
+    size_t place;
+    size_t hours;
+};
+
+/* The hours of a record's series, n, and how many coefficients it has, P. */
+struct sagivelume_told_record {
+    size_t number;
+    size_t place;
+    size_t hours;
+    size_t places;
+};
+
+/* A coefficient of a record. */
+struct sagivelume_told_coefficient {
+    size_t number;
+    size_t place;
+    int32_t coefficient;
+};
+
+/* The hours of a column: from `from` up to, not including, `upto`. */
+struct sagivelume_told_column {
+    size_t number;
+    size_t place;
+    size_t from;
+    size_t upto;
+};
+
+/* A column stopped at a depth: its outer and its inner range, and how many nodes were visited. Low and high of a range
+ * that is absent are both 2,000,003. */
+struct sagivelume_told_ranges {
+    size_t number;
+    size_t place;
+    int32_t outer_low;
+    int32_t outer_high;
+    int32_t inner_low;
+    int32_t inner_high;
+    size_t count;
+};
+
+/* The readings of some hours: `found` is 1 if there is one, else 0 with 0 in the other fields. First and last reading,
+ * each with its hour of the series, and the lowest and the highest. */
+struct sagivelume_told_answer {
+    size_t found;
+    size_t first_hour;
+    size_t last_hour;
+    int32_t first;
+    int32_t last;
+    int32_t low;
+    int32_t high;
+};
+
+/* A finished column: the fields of its answer, and how many nodes were visited and walked down. */
+struct sagivelume_told_finished {
+    size_t number;
+    size_t place;
+    size_t found;
+    size_t first_hour;
+    size_t last_hour;
+    int32_t first;
+    int32_t last;
+    int32_t low;
+    int32_t high;
+    size_t count;
+};
+
+/* The change of a day in grams: `found` is 1 if the day has a reading, else 0 with 0 grams. */
+struct sagivelume_told_change {
+    size_t number;
+    size_t place;
+    size_t found;
+    int32_t grams;
+};
+
+/* Makes the table of the first n readings. Reads n readings, writes P coefficients and P/2 codes. Refusals 1, 3, 2. */
+struct sagivelume_told sagivelume_make(
+    size_t n,
+    const int32_t *readings, size_t readings_length,
+    int32_t *coefficients, size_t coefficients_length,
+    uint8_t *codes, size_t codes_length);
+
+/* Turns a table back into the hours it was made from. Reads P coefficients and P/2 codes, writes n hours. Refusals 1,
+ * 3, 4. */
+struct sagivelume_told sagivelume_turn_back(
+    size_t n,
+    const int32_t *coefficients, size_t coefficients_length,
+    const uint8_t *codes, size_t codes_length,
+    int32_t *hours, size_t hours_length);
+
+/* Tells where the details of level j stand: 2 to the power j nodes, low detail and high detail of each in turn. Needs P
+ * coefficients, of which none is read. No refusal: length 0 where there is no such level, and for the causes of 1 and
+ * 3. */
+struct sagivelume_places sagivelume_level(
+    size_t n,
+    size_t j,
+    const int32_t *coefficients, size_t coefficients_length);
+
+/* Writes the record of a table. Reads P coefficients and P/2 codes, writes 7 + 3P + P/2 bytes and answers how many.
+ * Refusals 1, 3, 4. */
+struct sagivelume_told_bytes sagivelume_write_record(
+    size_t n,
+    const int32_t *coefficients, size_t coefficients_length,
+    const uint8_t *codes, size_t codes_length,
+    uint8_t *bytes, size_t bytes_length);
+
+/* Reads a record, which is all of the bytes, into a table and answers n. Writes P coefficients and P/2 codes. Refusals
+ * 8, 9, 1, 10, 8, 11, 3, 4. */
+struct sagivelume_told_hours sagivelume_read_record(
+    const uint8_t *bytes, size_t bytes_length,
+    int32_t *coefficients, size_t coefficients_length,
+    uint8_t *codes, size_t codes_length);
+
+/* Opens a record, which is all of the bytes, without reading its table, and answers n and P. Refusals 8, 9, 1, 10, 8,
+ * 11. */
+struct sagivelume_told_record sagivelume_open_record(
+    const uint8_t *bytes, size_t bytes_length);
+
+/* Asks an opened record, which has so many places, for the coefficient at one of them. Refusals 13, 8. */
+struct sagivelume_told_coefficient sagivelume_ask(
+    const uint8_t *bytes, size_t bytes_length,
+    size_t places,
+    size_t place);
+
+/* Tells the hours of one column of the window [a, b) that is drawn in w columns. Refusals 1, 5, 6. */
+struct sagivelume_told_column sagivelume_edges(
+    size_t n,
+    size_t a,
+    size_t b,
+    size_t w,
+    size_t column);
+
+/* Answers that column from the nodes down to a depth, 0 to l. Reads P coefficients and P/2 codes. Refusals 1, 3, 5, 6,
+ * 7, 4. */
+struct sagivelume_told_ranges sagivelume_stopped(
+    size_t n,
+    const int32_t *coefficients, size_t coefficients_length,
+    const uint8_t *codes, size_t codes_length,
+    size_t a,
+    size_t b,
+    size_t w,
+    size_t column,
+    size_t depth);
+
+/* Answers that column as a look through its hours would. Reads P coefficients and P/2 codes. Refusals 1, 3, 5, 6, 4. */
+struct sagivelume_told_finished sagivelume_finished(
+    size_t n,
+    const int32_t *coefficients, size_t coefficients_length,
+    const uint8_t *codes, size_t codes_length,
+    size_t a,
+    size_t b,
+    size_t w,
+    size_t column);
+
+/* Joins the answer of some hours with the answer of the hours after them. No refusal: `found` other than 0 is taken as
+ * 1, and where it is 0 the other fields are not looked at. */
+struct sagivelume_told_answer sagivelume_join(
+    struct sagivelume_told_answer left,
+    struct sagivelume_told_answer right);
+
+/* Answers the last reading of a day minus its first; day d has the hours 24d to 24d + 23, cut at n. Reads P
+ * coefficients and P/2 codes. Refusals 1, 3, 5, 4. */
+struct sagivelume_told_change sagivelume_day_change(
+    size_t n,
+    const int32_t *coefficients, size_t coefficients_length,
+    const uint8_t *codes, size_t codes_length,
+    size_t day);
+
+#ifdef __cplusplus
+}
+#endif
+
+#endif
