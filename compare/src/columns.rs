@@ -1,8 +1,8 @@
 //! Columns of windows as they are drawn. What stands at the edges is listed besides.
 
 use sagivelume::Column;
-use second::random::Random;
 
+use crate::drawing::Drawing;
 use crate::line::Line;
 use crate::numbers::MOST;
 
@@ -81,7 +81,7 @@ pub fn columns_of_windows(n: usize) -> Vec<Column> {
 }
 
 /// A column of a window of n hours: mostly one that there is, often with more columns than hours.
-pub fn draw_column(random: &mut Random, n: usize) -> Column {
+pub fn draw_column(random: &mut Drawing, n: usize) -> Column {
     let (a, b) = draw_window(random, n);
     let hours = b.saturating_sub(a).min(MOST) as u64;
     let w = match random.below(16) {
@@ -108,7 +108,7 @@ pub fn next_column(column: Column) -> Option<Column> {
 }
 
 /// A window: mostly one of n hours, often the whole series or a few hours.
-fn draw_window(random: &mut Random, n: usize) -> (usize, usize) {
+fn draw_window(random: &mut Drawing, n: usize) -> (usize, usize) {
     let hours = n.clamp(1, MOST) as u64;
     let a = random.below(hours) as usize;
     let b = a + 1 + random.below(hours - a as u64) as usize;

@@ -1,6 +1,7 @@
 //! What the proved store gave to one call, in the form in which the second program answers.
 
-use std::fmt;
+use std::cmp::Ordering;
+use std::fmt::{self, Write};
 
 use sagivelume::Refusal;
 
@@ -69,6 +70,8 @@ pub struct Given {
     pub head: Head,
     /// The whole answer line: the head, then each buffer written.
     pub answer: String,
+    /// The buffers whose guards were looked at, and their lengths, as far as a length is needed.
+    pub lent: Vec<(&'static str, Ordering)>,
     /// Buffers that changed where they should not.
     pub faults: Vec<String>,
 }
@@ -76,7 +79,7 @@ pub struct Given {
 impl Given {
     /// An answer whose buffers are still to be looked at.
     pub fn new(head: Head) -> Given {
-        Given { answer: head.to_string(), head, faults: vec![] }
+        Given { answer: head.to_string(), head, lent: vec![], faults: vec![] }
     }
 
     /// A buffer that was only read: neither it nor its guards may have changed.
@@ -100,12 +103,13 @@ impl Given {
     pub fn shown<T: Held>(mut self, numbers: &[T]) -> Given {
         self.answer += " |";
         for number in numbers {
-            self.answer += &format!(" {number}");
+            write!(self.answer, " {number}").expect("a string takes every text");
         }
         self
     }
 
     fn guarded<T: Held>(mut self, lent: &Lent<T>) -> Given {
+        self.lent.extend(lent.length().map(|length| (lent.name, length)));
         if !lent.guards_stand() {
             self.faults.push(format!("memory around {} changed", lent.name));
         }

@@ -1,5 +1,6 @@
 //! Lent buffers, each a part of a larger one with guards on both sides.
 
+use std::cmp::Ordering;
 use std::fmt::Display;
 
 /// Guards on each side of a lent buffer. An odd number, so that no buffer begins where memory is best aligned.
@@ -28,15 +29,16 @@ pub struct Lent<'a, T> {
     /// What the buffer is called.
     pub name: &'static str,
     before: &'a [T],
+    needed: Option<usize>,
     whole: Vec<T>,
 }
 
 impl<'a, T: Held> Lent<'a, T> {
-    /// A buffer that holds this before the call.
-    pub fn holding(name: &'static str, before: &'a [T]) -> Lent<'a, T> {
+    /// A buffer that holds this before the call, and how much of it the call needs, if that can be said.
+    pub fn holding(name: &'static str, before: &'a [T], needed: Option<usize>) -> Lent<'a, T> {
         let mut whole: Vec<T> = (0..2 * GUARDS + before.len()).map(T::guard).collect();
         whole[GUARDS..][..before.len()].copy_from_slice(before);
-        Lent { name, before, whole }
+        Lent { name, before, needed, whole }
     }
 
     /// The lent part, to be read.
@@ -47,6 +49,11 @@ impl<'a, T: Held> Lent<'a, T> {
     /// The lent part, to be written.
     pub fn part_mut(&mut self) -> &mut [T] {
         &mut self.whole[GUARDS..][..self.before.len()]
+    }
+
+    /// Whether the lent part is shorter than needed, just as long, or longer.
+    pub fn length(&self) -> Option<Ordering> {
+        self.needed.map(|needed| self.before.len().cmp(&needed))
     }
 
     /// Whether the lent part holds what it held before.
@@ -68,15 +75,25 @@ mod tests {
     #[test]
     fn every_change_is_seen() {
         let before = [3, 4, 5];
-        let untouched = Lent::holding("hours", &before);
+        let untouched = Lent::holding("hours", &before, None);
         assert_eq!(untouched.part(), before);
         assert!(untouched.unchanged() && untouched.guards_stand());
 
         for place in 0..2 * GUARDS + before.len() {
-            let mut lent = Lent::holding("hours", &before);
+            let mut lent = Lent::holding("hours", &before, None);
             lent.whole[place] ^= 1;
             let inside = (GUARDS..GUARDS + before.len()).contains(&place);
             assert_eq!((lent.unchanged(), lent.guards_stand()), (!inside, inside));
         }
+    }
+
+    #[test]
+    fn lengths_are_held_against_what_is_needed() {
+        let length = |needed| Lent::holding("codes", &[1_u8, 2], needed).length();
+        assert_eq!(
+            [3, 2, 1].map(|needed| length(Some(needed))),
+            [Ordering::Less, Ordering::Equal, Ordering::Greater].map(Some)
+        );
+        assert_eq!(length(None), None);
     }
 }

@@ -5,13 +5,13 @@ use std::rc::Rc;
 
 use sagivelume::Column;
 use second::hours::GAP;
-use second::random::Random;
 
 use crate::columns::{of_second, outcome_of_6};
+use crate::drawing::Drawing;
 use crate::given::{Given, Head};
 use crate::lent::Lent;
 use crate::line::Line;
-use crate::numbers::{draw_lent_length, Room, EDGES_OF_N, EDGE_LENGTHS, MOST};
+use crate::numbers::{draw_resized, Room, EDGES_OF_N, EDGE_LENGTHS, MOST};
 use crate::series::draw_series;
 use crate::tables::{damage_node, draw_table, Table};
 
@@ -55,8 +55,10 @@ impl LentTable {
 
     /// What a call gives to which both buffers are lent to be read.
     pub fn given(&self, call: impl FnOnce(&[i32], &[u8]) -> Head) -> Given {
-        let coefficients = Lent::holding("coefficients", &self.coefficients);
-        let codes = Lent::holding("codes", &self.codes);
+        let needed = Room::of_series(self.n);
+        let coefficients =
+            Lent::holding("coefficients", &self.coefficients, needed.map(|room| room.coefficients));
+        let codes = Lent::holding("codes", &self.codes, needed.map(|room| room.codes));
         Given::new(call(coefficients.part(), codes.part())).read(&coefficients).read(&codes)
     }
 
@@ -174,29 +176,29 @@ pub fn long_table(n: usize) -> Rc<LentTable> {
 
 /// A table lent for a column of n hours: sound, or damaged at one node, often one that the column's edges are below, or
 /// as it is drawn for other calls.
-pub fn draw_lent(random: &mut Random, n: usize, column: Column) -> Rc<LentTable> {
+pub fn draw_lent(random: &mut Drawing, n: usize, column: Column) -> Rc<LentTable> {
     let room = Room::draw(random, n);
     let mut table = match random.below(8) {
-        0 => draw_table(random, room),
+        0 | 1 => draw_table(random, room),
         _ if room.hours > MOST => draw_table(random, room),
         kind => {
             let mut table = Table::made(&draw_series(random, room.hours));
             if kind < 5 {
                 let node = draw_node(random, room, column);
                 damage_node(random, &mut table, node);
+            } else {
+                random.note("as made");
             }
             table
         }
     };
-    let lent = draw_lent_length(random, room.coefficients);
-    table.coefficients.resize(lent, i32::MIN);
-    let lent = draw_lent_length(random, room.codes);
-    table.codes.resize(lent, 255);
+    draw_resized(random, &mut table.coefficients);
+    draw_resized(random, &mut table.codes);
     LentTable::of(n, table)
 }
 
 /// The number of a node: above an hour at an edge of the column, or above any hour; 0 stands for the root values.
-fn draw_node(random: &mut Random, room: Room, column: Column) -> usize {
+fn draw_node(random: &mut Drawing, room: Room, column: Column) -> usize {
     let p = room.coefficients;
     let any = random.below(p as u64) as usize;
     let hour = match second::edges(room.hours as u64, of_second(column)) {
@@ -214,7 +216,7 @@ mod tests {
     /// Every node of a table can be damaged, and a damaged one is unsound.
     #[test]
     fn damage_is_at_the_node_told() {
-        let mut random = Random::new(3);
+        let mut random = Drawing::new(3);
         let readings: Vec<i32> = (0..16).map(|hour| if hour % 5 == 4 { GAP } else { 7 * hour }).collect();
         let room = Room::of(16);
         let mut damaged = std::collections::BTreeSet::new();

@@ -9,78 +9,32 @@
 //! otherwise: the first difference is printed with its call as a line for `second answer`. Anything else on the command
 //! line ends it with 2.
 
-mod calls;
-mod columns;
-mod given;
-mod lent;
-mod lent_tables;
-mod line;
-mod numbers;
-mod records;
-mod series;
-mod tables;
-
 use std::process::ExitCode;
 
-use calls::{compare, Difference, Tally};
-use calls::{Ask, AskView, Level, Make, Open, ReadRecord, TurnBack, WriteRecord};
-use calls::{DayChange, Edges, FinishedColumn, Join, StoppedAt};
+use compare::calls::KINDS;
+use compare::command_line::Asked;
+use compare::compared::Difference;
+use compare::tally::Tally;
 
 const USAGE: &str = "usage: compare [--seed N] [--calls N]";
 
-/// What is compared if the command line does not say it.
-const USUAL: Run = Run { seed: 16_384, calls: 50_000 };
+/// The seed, if the command line does not say it.
+const SEED: u64 = 16_384;
 
-/// One run: its seed, and the number of calls drawn of each kind.
-#[derive(Clone, Copy, Debug, PartialEq, Eq)]
-struct Run {
-    seed: u64,
-    calls: usize,
-}
-
-impl Run {
-    /// The run that a command line asks for.
-    fn asked(mut arguments: impl Iterator<Item = String>) -> Option<Run> {
-        let mut run = USUAL;
-        while let Some(name) = arguments.next() {
-            let value = arguments.next()?;
-            match name.as_str() {
-                "--seed" => run.seed = value.parse().ok()?,
-                "--calls" => run.calls = value.parse().ok()?,
-                _ => return None,
-            }
-        }
-        Some(run)
-    }
-
-    /// Every kind of call. A new kind takes its line here.
-    fn compared(self) -> Result<Vec<Tally>, Box<Difference>> {
-        Ok(vec![
-            compare::<Make>(self.seed, self.calls)?,
-            compare::<TurnBack>(self.seed, self.calls)?,
-            compare::<Level>(self.seed, self.calls)?,
-            compare::<WriteRecord>(self.seed, self.calls)?,
-            compare::<ReadRecord>(self.seed, self.calls)?,
-            compare::<Open>(self.seed, self.calls)?,
-            compare::<Ask>(self.seed, self.calls)?,
-            compare::<AskView>(self.seed, self.calls)?,
-            compare::<Edges>(self.seed, self.calls)?,
-            compare::<StoppedAt>(self.seed, self.calls)?,
-            compare::<FinishedColumn>(self.seed, self.calls)?,
-            compare::<Join>(self.seed, self.calls)?,
-            compare::<DayChange>(self.seed, self.calls)?,
-        ])
-    }
-}
+/// The calls drawn of each kind, if the command line does not say them.
+const CALLS: usize = 50_000;
 
 fn main() -> ExitCode {
-    let Some(run) = Run::asked(std::env::args().skip(1)) else {
+    let Some(asked) = Asked::of(std::env::args().skip(1)) else {
         eprintln!("{USAGE}");
         return ExitCode::from(2);
     };
-    println!("seed {}, {} drawn calls of each kind, edge calls before them", run.seed, run.calls);
+    let (seed, calls) = (asked.seed.unwrap_or(SEED), asked.calls.unwrap_or(CALLS));
+    println!("seed {seed}, {calls} drawn calls of each kind, edge calls before them");
 
-    let tallies = match run.compared() {
+    let compared: Result<Vec<Tally>, Box<Difference>> =
+        KINDS.iter().map(|kind| (kind.compare)(seed, calls)).collect();
+    let tallies = match compared {
         Ok(tallies) => tallies,
         Err(difference) => {
             println!("{difference}");
@@ -92,29 +46,10 @@ fn main() -> ExitCode {
         println!("{lack}");
     }
     let counted: Vec<String> = tallies.iter().map(Tally::to_string).collect();
-    println!("{}; seed {}; 0 differences", counted.join("; "), run.seed);
+    println!("{}; seed {seed}; 0 differences", counted.join("; "));
     if lacking.is_empty() {
         ExitCode::SUCCESS
     } else {
         ExitCode::FAILURE
-    }
-}
-
-#[cfg(test)]
-mod tests {
-    use super::*;
-
-    fn asked(line: &str) -> Option<Run> {
-        Run::asked(line.split_whitespace().map(String::from))
-    }
-
-    #[test]
-    fn command_lines() {
-        assert_eq!(asked(""), Some(USUAL));
-        assert_eq!(asked("--seed 7"), Some(Run { seed: 7, ..USUAL }));
-        assert_eq!(asked("--calls 9 --seed 7"), Some(Run { seed: 7, calls: 9 }));
-        assert_eq!(asked("--seed"), None);
-        assert_eq!(asked("--seed x"), None);
-        assert_eq!(asked("--other 7"), None);
     }
 }

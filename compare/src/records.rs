@@ -1,17 +1,16 @@
-//! Records as bytes: those of sound, damaged and invented tables, as they are, cut, lengthened or changed. What stands
-//! at the edges is listed besides.
+//! Records as bytes: the layout, and those that stand at the edges, of sound and unsound tables, as they are, cut,
+//! lengthened or changed.
 
 use second::hours::GAP;
-use second::random::Random;
 use second::table::ONLY_LEFT;
 
-use crate::numbers::{draw_held, draw_n, Room, EDGES_OF_N, EVERY_P};
-use crate::tables::{draw_table, Table};
+use crate::numbers::{Room, EDGES_OF_N, EVERY_P};
+use crate::tables::Table;
 
 /// Bytes before the first coefficient.
 pub const HEADER: usize = 7;
 /// Where the version stands.
-const VERSION: usize = 4;
+pub const VERSION: usize = 4;
 /// The least and the greatest number that three bytes hold.
 const THREE_BYTES: (i32, i32) = (-(1 << 23), (1 << 23) - 1);
 
@@ -42,6 +41,14 @@ pub fn hours_stated(bytes: &[u8]) -> usize {
     }
 }
 
+/// The bytes that the whole record of the hours stated has, those of the header if the bytes end within it.
+pub fn bytes_needed(bytes: &[u8]) -> Option<usize> {
+    if bytes.len() < HEADER {
+        return Some(HEADER);
+    }
+    Room::of_series(hours_stated(bytes)).map(Room::record)
+}
+
 fn changed(bytes: &[u8], change: impl FnOnce(&mut Vec<u8>)) -> Vec<u8> {
     let mut bytes = bytes.to_vec();
     change(&mut bytes);
@@ -53,11 +60,13 @@ fn resized(bytes: &[u8], length: usize) -> Vec<u8> {
     changed(bytes, |bytes| bytes.resize(length, 0))
 }
 
-fn with_length_field(bytes: &[u8], length: u32) -> Vec<u8> {
+/// The same bytes, stating this length.
+pub fn with_length_field(bytes: &[u8], length: u32) -> Vec<u8> {
     changed(bytes, |bytes| bytes[..VERSION].copy_from_slice(&length.to_be_bytes()))
 }
 
-fn with_hours(bytes: &[u8], n: u16) -> Vec<u8> {
+/// The same bytes, stating so many hours.
+pub fn with_hours(bytes: &[u8], n: u16) -> Vec<u8> {
     changed(bytes, |bytes| bytes[VERSION + 1..HEADER].copy_from_slice(&n.to_be_bytes()))
 }
 
@@ -175,92 +184,6 @@ pub fn far_places() -> Vec<usize> {
         [32, 64].into_iter().flat_map(|bits| [1_u128, 2].map(|times| ((times << bits) / 3) as usize));
     let around = wrapping.flat_map(|place| place - 4..=place + 2);
     around.chain([1 << 16, 1 << 31, 1 << 32, 1 << 62, 1 << 63, usize::MAX - 1, usize::MAX]).collect()
-}
-
-/// A place: mostly below so many, often around them, seldom far.
-pub fn draw_place(random: &mut Random, places: usize) -> usize {
-    match random.below(8) {
-        0 => random.one_of(&far_places()),
-        1 | 2 => places.saturating_sub(2).saturating_add(random.below(5) as usize),
-        _ => random.below(places.max(1) as u64) as usize,
-    }
-}
-
-/// A record: often as it should be, though its table may be unsound or have too many hours, else cut, lengthened, with
-/// bits flipped, with another header, or invented.
-pub fn draw_record(random: &mut Random) -> Vec<u8> {
-    let n = draw_n(random);
-    let room = Room::draw(random, n);
-    let mut bytes = record_of(n, &draw_table(random, room));
-    match random.below(16) {
-        0 => draw_cut(random, &mut bytes),
-        1 => lengthen(random, &mut bytes),
-        2 | 3 => flip(random, &mut bytes),
-        4 | 5 => draw_header(random, &mut bytes),
-        6 => bytes = draw_invented(random),
-        _ => {}
-    }
-    bytes
-}
-
-/// Adds a few bytes, or up to as many again.
-fn lengthen(random: &mut Random, bytes: &mut Vec<u8>) {
-    let most = if random.once_in(4) { bytes.len() as u64 } else { 4 };
-    let more = 1 + random.below(most) as usize;
-    bytes.extend::<Vec<u8>>(draw_held(random, more));
-}
-
-/// Cuts bytes anywhere, just before their end, or in the first sixteen.
-fn draw_cut(random: &mut Random, bytes: &mut Vec<u8>) {
-    let length = match random.below(3) {
-        0 => random.below(bytes.len() as u64) as usize,
-        1 => bytes.len() - 1 - random.below(4) as usize,
-        _ => random.below(16) as usize,
-    };
-    bytes.truncate(length);
-}
-
-/// Flips up to three bits, often in the header.
-fn flip(random: &mut Random, bytes: &mut [u8]) {
-    let flippable = if random.once_in(3) { HEADER } else { bytes.len() };
-    for _ in 0..1 + random.below(3) {
-        let bit = random.below(8 * flippable as u64) as usize;
-        bytes[bit / 8] ^= 1 << (bit % 8);
-    }
-}
-
-/// Another version, other hours, hours with the length that is theirs, or another length. The bytes stay as many or,
-/// seldom, are cut.
-fn draw_header(random: &mut Random, bytes: &mut Vec<u8>) {
-    let n = draw_n(random);
-    let stated = (bytes.len() - 4) as u32;
-    match random.below(5) {
-        0 => bytes[VERSION] = random.below(256) as u8,
-        1 => *bytes = with_hours(bytes, n as u16),
-        2 => {
-            let length = Room::of(n).record() as u32 - 4;
-            *bytes = with_hours(&with_length_field(bytes, length), n as u16);
-        }
-        3 => *bytes = with_length_field(bytes, stated.wrapping_add_signed(random.between(-9, 9))),
-        _ => *bytes = with_length_field(bytes, random.draw() as u32),
-    }
-    if random.once_in(4) {
-        draw_cut(random, bytes);
-    }
-}
-
-/// Any bytes, or a small record of any coefficients and codes.
-fn draw_invented(random: &mut Random) -> Vec<u8> {
-    if random.once_in(2) {
-        let length = random.below(40) as usize;
-        return draw_held(random, length);
-    }
-    let n = 1 + random.below(4) as usize;
-    let mut bytes = record_of_equal(n);
-    let after_header = draw_held(random, bytes.len() - HEADER);
-    bytes.truncate(HEADER);
-    bytes.extend::<Vec<u8>>(after_header);
-    bytes
 }
 
 #[cfg(test)]

@@ -1,9 +1,9 @@
 //! Tables as they are drawn: sound, damaged and invented. What stands at the edges is listed besides.
 
 use second::hours::{GAP, GREATEST_READING};
-use second::random::Random;
 use second::table::{NEITHER, ONLY_LEFT, ONLY_RIGHT};
 
+use crate::drawing::{Drawing, Topic};
 use crate::numbers::{Room, MOST};
 use crate::series::{draw_series, NO_READINGS};
 
@@ -28,34 +28,54 @@ impl Table {
     }
 }
 
-/// A table for this room: made from readings, made and then damaged, or invented.
-pub fn draw_table(random: &mut Random, room: Room) -> Table {
+/// What is drawn of tables: as they are made, changed after that, or invented.
+#[rustfmt::skip]
+pub const CHANGES: Topic = Topic {
+    name: "table",
+    drawn: &[
+        "as made", "of other hours", "root changed", "a node changed", "one changed", "some changed", "exchanged",
+        "invented",
+    ],
+};
+
+/// A table for this room: made from readings, made and then changed, or invented. A note is taken of which.
+pub fn draw_table(random: &mut Drawing, room: Room) -> Table {
     if room.hours > MOST {
         return Table { coefficients: vec![GAP; room.coefficients], codes: vec![4; room.codes] };
     }
-    match random.below(10) {
-        0 => return draw_invented(random, room),
-        // A series with as many coefficients, but perhaps more or fewer hours.
-        1 => {
-            let hours = room.codes + 1 + random.below(room.codes as u64) as usize;
-            return Table::made(&draw_series(random, hours));
+    match random.below(20) {
+        0 | 1 => {
+            random.note("invented");
+            draw_invented(random, room)
         }
-        _ => {}
+        // A series with as many coefficients, but perhaps more or fewer hours.
+        2 | 3 => {
+            random.note("of other hours");
+            let hours = room.codes + 1 + random.below(room.codes as u64) as usize;
+            Table::made(&draw_series(random, hours))
+        }
+        kind => {
+            let mut table = Table::made(&draw_series(random, room.hours));
+            match kind {
+                4 => damage_node(random, &mut table, 0),
+                5 => {
+                    let node = random.below(2 * room.codes as u64) as usize;
+                    damage_node(random, &mut table, node);
+                }
+                6..=8 => damage(random, &mut table, 1),
+                9 | 10 => damage(random, &mut table, 3),
+                11 | 12 => exchange(random, &mut table),
+                _ => random.note("as made"),
+            }
+            table
+        }
     }
-    let mut table = Table::made(&draw_series(random, room.hours));
-    if random.once_in(2) {
-        damage(random, &mut table);
-    }
-    table
 }
 
-/// Changes the root values, or up to three coefficients or codes.
-fn damage(random: &mut Random, table: &mut Table) {
-    if random.once_in(8) {
-        damage_root(random, table);
-        return;
-    }
-    for _ in 0..1 + random.below(3) {
+/// Changes a coefficient or a code, so many times.
+fn damage(random: &mut Drawing, table: &mut Table, times: usize) {
+    random.note(if times == 1 { "one changed" } else { "some changed" });
+    for _ in 0..times {
         if random.once_in(3) {
             let place = random.below(table.codes.len() as u64) as usize;
             table.codes[place] = draw_code(random);
@@ -71,14 +91,36 @@ fn damage(random: &mut Random, table: &mut Table) {
             _ => old.wrapping_add(random.one_of(&[-2, -1, 1, 2])),
         };
         table.coefficients[place] = new;
-        if random.once_in(3) {
+        if times > 1 && random.once_in(3) {
             table.coefficients[place ^ 1] = new;
         }
     }
 }
 
+/// Exchanges two coefficients, the low and the high of one node, both details of two nodes, or two codes.
+fn exchange(random: &mut Drawing, table: &mut Table) {
+    random.note("exchanged");
+    let Table { coefficients, codes } = table;
+    let (nodes, pairs) = (coefficients.len() / 2, codes.len());
+    let mut below = |places: usize| random.below(places as u64) as usize;
+    match below(4) {
+        0 => coefficients.swap(below(2 * nodes), below(2 * nodes)),
+        1 => {
+            let node = below(nodes);
+            coefficients.swap(2 * node, 2 * node + 1);
+        }
+        2 => {
+            let (node, other) = (below(nodes), below(nodes));
+            coefficients.swap(2 * node, 2 * other);
+            coefficients.swap(2 * node + 1, 2 * other + 1);
+        }
+        _ => codes.swap(below(pairs), below(pairs)),
+    }
+}
+
 /// Changes what a table holds of one node, 0 standing for the root values, mostly so that it is unsound.
-pub fn damage_node(random: &mut Random, table: &mut Table, node: usize) {
+pub fn damage_node(random: &mut Drawing, table: &mut Table, node: usize) {
+    random.note(if node == 0 { "root changed" } else { "a node changed" });
     let pairs_from = table.codes.len();
     if node == 0 {
         return damage_root(random, table);
@@ -98,7 +140,7 @@ pub fn damage_node(random: &mut Random, table: &mut Table, node: usize) {
 }
 
 /// Low over high, a single mark, a wrong mark, or out of the range of readings.
-fn damage_root(random: &mut Random, table: &mut Table) {
+fn damage_root(random: &mut Drawing, table: &mut Table) {
     let root = &mut table.coefficients[..2];
     match random.below(5) {
         0 => root.swap(0, 1),
@@ -110,7 +152,7 @@ fn damage_root(random: &mut Random, table: &mut Table) {
 }
 
 /// A table of no series in particular: small numbers and marks, which are now and then sound, or anything.
-fn draw_invented(random: &mut Random, room: Room) -> Table {
+fn draw_invented(random: &mut Drawing, room: Room) -> Table {
     let wild = random.once_in(4);
     let marks = random.one_of(&[0, 2, 4]);
     let mut coefficients = Vec::with_capacity(room.coefficients);
@@ -130,12 +172,12 @@ fn draw_invented(random: &mut Random, room: Room) -> Table {
     Table { coefficients, codes: (0..room.codes).map(|_| draw_code(random)).collect() }
 }
 
-fn draw_mark(random: &mut Random) -> i32 {
+fn draw_mark(random: &mut Drawing) -> i32 {
     random.one_of(&[ONLY_LEFT, ONLY_RIGHT, NEITHER])
 }
 
 /// A code, seldom none.
-fn draw_code(random: &mut Random) -> u8 {
+fn draw_code(random: &mut Drawing) -> u8 {
     random.one_of(&[0, 0, 0, 1, 1, 1, 2, 2, 3, 3, 4, 4, 5, 128, 255])
 }
 
@@ -192,15 +234,20 @@ fn edge_details() -> Vec<(usize, Table)> {
 
 #[cfg(test)]
 mod tests {
+    use std::collections::BTreeSet;
+
     use super::*;
 
     #[test]
     fn tables_have_the_room_asked_for() {
-        let mut random = Random::new(2);
+        let mut random = Drawing::new(2);
+        let mut notes = BTreeSet::new();
         for _ in 0..2_000 {
             let room = Room::of(1 + random.below(60) as usize);
             let table = draw_table(&mut random, room);
             assert_eq!((table.coefficients.len(), table.codes.len()), (room.coefficients, room.codes));
+            notes.extend(random.notes());
         }
+        assert!(CHANGES.drawn.iter().all(|change| notes.contains(change)));
     }
 }

@@ -1,13 +1,13 @@
 //! Opening a record and asking it for one coefficient.
 
-use second::random::Random;
-
 use super::{outcome_of_record, Call};
+use crate::drawing::Drawing;
+use crate::drawn_records::{draw_place, draw_record};
 use crate::given::{Given, Head};
 use crate::lent::Lent;
 use crate::line::Line;
 use crate::numbers::Room;
-use crate::records::{draw_place, draw_record, edge_records, hours_stated};
+use crate::records::{bytes_needed, edge_records, hours_stated};
 
 /// `ask place | record`
 pub struct Ask {
@@ -37,7 +37,7 @@ impl Call for Ask {
         calls
     }
 
-    fn draw(random: &mut Random) -> Ask {
+    fn draw(random: &mut Drawing) -> Ask {
         let bytes = draw_record(random);
         let p = Room::of(hours_stated(&bytes)).coefficients;
         Ask { place: draw_place(random, p), bytes }
@@ -48,7 +48,7 @@ impl Call for Ask {
     }
 
     fn given(&self) -> Given {
-        let record = Lent::holding("record", &self.bytes);
+        let record = Lent::holding("record", &self.bytes, bytes_needed(&self.bytes));
         let asked = sagivelume::open_record(record.part()).and_then(|opened| opened.coefficient(self.place));
         let head = Head::answering(asked.map(|coefficient| [coefficient]));
         Given::new(head).read(&record)

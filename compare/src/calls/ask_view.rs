@@ -1,13 +1,13 @@
 //! Asking a view, which holds any bytes and any number of places, for one coefficient.
 
-use second::random::Random;
-
 use super::{outcome_of_record, Call};
+use crate::drawing::Drawing;
+use crate::drawn_records::{draw_place, draw_record};
 use crate::given::{Given, Head};
 use crate::lent::Lent;
 use crate::line::Line;
 use crate::numbers::{draw_held, Room, EVERY_P};
-use crate::records::{draw_place, draw_record, far_places, hours_stated, record_of_equal, HEADER};
+use crate::records::{far_places, hours_stated, record_of_equal, HEADER};
 
 /// `ask_view places place | record`
 pub struct AskView {
@@ -19,6 +19,11 @@ pub struct AskView {
 /// How many coefficients stand whole in some bytes.
 fn reached(bytes: &[u8]) -> usize {
     bytes.len().saturating_sub(HEADER) / 3
+}
+
+/// How many bytes there are up to the end of a coefficient.
+fn bytes_up_to(place: usize) -> usize {
+    place.saturating_add(1).saturating_mul(3).saturating_add(HEADER)
 }
 
 /// Bytes of which no two neighbours are alike, with either sign, so that each coefficient shows its place.
@@ -71,7 +76,7 @@ impl Call for AskView {
                 calls.push(AskView { places: usize::MAX, place, bytes: record.clone() });
             }
             for place in [0, p / 2, p - 1] {
-                let end = HEADER + 3 * (place + 1);
+                let end = bytes_up_to(place);
                 calls.extend((end - 3..=end + 1).map(|length| AskView {
                     places: p,
                     place,
@@ -82,10 +87,10 @@ impl Call for AskView {
         calls
     }
 
-    fn draw(random: &mut Random) -> AskView {
+    fn draw(random: &mut Drawing) -> AskView {
         let length = random.one_of(&[17, 400]);
         let length = random.below(length) as usize;
-        let bytes = if random.once_in(2) { draw_held(random, length) } else { draw_record(random) };
+        let mut bytes = if random.once_in(2) { draw_held(random, length) } else { draw_record(random) };
         let reached = reached(&bytes);
         let places = match random.below(8) {
             0 => random.below(40) as usize,
@@ -94,7 +99,11 @@ impl Call for AskView {
             _ => Room::of(hours_stated(&bytes)).coefficients,
         };
         let asked = if random.once_in(3) { reached } else { places };
-        AskView { places, place: draw_place(random, asked), bytes }
+        let place = draw_place(random, asked);
+        if place < reached && random.once_in(8) {
+            bytes.truncate(bytes_up_to(place) - random.below(2) as usize);
+        }
+        AskView { places, place, bytes }
     }
 
     fn line(&self) -> String {
@@ -102,7 +111,8 @@ impl Call for AskView {
     }
 
     fn given(&self) -> Given {
-        let record = Lent::holding("record", &self.bytes);
+        let needed = (self.place < self.places).then(|| bytes_up_to(self.place));
+        let record = Lent::holding("record", &self.bytes, needed);
         let asked = sagivelume::ask(record.part(), self.places, self.place);
         Given::new(Head::answering(asked.map(|coefficient| [coefficient]))).read(&record)
     }

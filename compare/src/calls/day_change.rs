@@ -4,10 +4,10 @@ use std::rc::Rc;
 
 use sagivelume::Column;
 use second::hours::GAP;
-use second::random::Random;
 
 use super::Call;
 use crate::columns::FAR;
+use crate::drawing::Drawing;
 use crate::given::{field, Given, Head};
 use crate::lent_tables::{self, draw_lent, LentTable, UNSOUND_ELSEWHERE};
 use crate::line::Line;
@@ -83,7 +83,7 @@ impl Call for DayChange {
         calls
     }
 
-    fn draw(random: &mut Random) -> DayChange {
+    fn draw(random: &mut Drawing) -> DayChange {
         let n = draw_n(random);
         let days = n.clamp(1, MOST).div_ceil(DAY);
         let day = match random.below(16) {

@@ -1,12 +1,12 @@
 //! The edges of a column.
 
 use sagivelume::Column;
-use second::random::Random;
 
 use super::{taken_or_refused, Call};
 use crate::columns::{
     columns, draw_column, edge_columns, every_column, next_column, numbers_of, outcome_of_6,
 };
+use crate::drawing::Drawing;
 use crate::given::{Given, Head};
 use crate::lent_tables::NO_HOUR;
 use crate::line::Line;
@@ -40,7 +40,7 @@ impl Call for Edges {
         calls
     }
 
-    fn draw(random: &mut Random) -> Edges {
+    fn draw(random: &mut Drawing) -> Edges {
         let n = draw_n(random);
         Edges { n, column: draw_column(random, n) }
     }

@@ -3,11 +3,11 @@
 use std::rc::Rc;
 
 use sagivelume::{Column, Finished, Refusal};
-use second::random::Random;
 
 use super::{answer_fields, Call};
 use crate::columns::{causes_in_columns, columns, columns_of_windows, edge_columns, every_column};
 use crate::columns::{draw_column, next_column, numbers_of};
+use crate::drawing::Drawing;
 use crate::given::{Given, Head};
 use crate::lent_tables::{self, draw_lent, LentTable, NO_HOUR, UNSOUND_ELSEWHERE};
 use crate::line::Line;
@@ -76,7 +76,7 @@ impl Call for FinishedColumn {
         calls
     }
 
-    fn draw(random: &mut Random) -> FinishedColumn {
+    fn draw(random: &mut Drawing) -> FinishedColumn {
         let n = draw_n(random);
         let column = draw_column(random, n);
         FinishedColumn { table: draw_lent(random, n, column), column }

@@ -1,10 +1,10 @@
 //! Joining two answers.
 
 use sagivelume::{Answer, Reading, Summary};
-use second::random::Random;
 
 use super::{answer_fields, Call};
 use crate::columns::FAR;
+use crate::drawing::Drawing;
 use crate::given::{Given, Head};
 use crate::line::Line;
 use crate::numbers::Drawn;
@@ -24,7 +24,7 @@ fn counted(hour: usize, grams: i32) -> Answer {
 }
 
 /// Any answer, also one that no column gives: joining checks nothing.
-fn draw_answer(random: &mut Random) -> Answer {
+fn draw_answer(random: &mut Drawing) -> Answer {
     if random.once_in(5) {
         return None;
     }
@@ -54,7 +54,7 @@ impl Call for Join {
         pairs.collect()
     }
 
-    fn draw(random: &mut Random) -> Join {
+    fn draw(random: &mut Drawing) -> Join {
         Join { left: draw_answer(random), right: draw_answer(random) }
     }
 

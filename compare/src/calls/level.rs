@@ -1,8 +1,7 @@
 //! One level of details.
 
-use second::random::Random;
-
 use super::Call;
+use crate::drawing::Drawing;
 use crate::given::{Given, Head};
 use crate::lent::Lent;
 use crate::line::Line;
@@ -43,7 +42,7 @@ impl Call for Level {
         calls
     }
 
-    fn draw(random: &mut Random) -> Level {
+    fn draw(random: &mut Drawing) -> Level {
         let n = draw_n(random);
         let room = Room::draw(random, n);
         let levels = u64::from(room.coefficients.ilog2());
@@ -59,7 +58,8 @@ impl Call for Level {
     }
 
     fn given(&self) -> Given {
-        let coefficients = Lent::holding("coefficients", &self.coefficients);
+        let needed = Room::of_series(self.n).map(|room| room.coefficients);
+        let coefficients = Lent::holding("coefficients", &self.coefficients, needed);
         let lent = coefficients.part();
         let details = sagivelume::level(self.n, self.j, lent);
         // The part has to be one of the lent coefficients themselves: where it begins is told by its address.

@@ -1,12 +1,11 @@
 //! Making a table.
 
-use second::random::Random;
-
 use super::Call;
+use crate::drawing::Drawing;
 use crate::given::{Given, Head};
 use crate::lent::Lent;
 use crate::line::Line;
-use crate::numbers::{draw_held, draw_lent_length, draw_n, Room, EDGES_OF_N, EDGE_LENGTHS};
+use crate::numbers::{draw_held, draw_lent_length, draw_n, draw_resized, Room, EDGES_OF_N, EDGE_LENGTHS};
 use crate::series::{draw_series, edge_series, spoil, NO_READINGS};
 
 /// `make n | readings | coefficients | codes`
@@ -69,17 +68,14 @@ impl Call for Make {
         calls
     }
 
-    fn draw(random: &mut Random) -> Make {
+    fn draw(random: &mut Drawing) -> Make {
         let n = draw_n(random);
         let room = Room::draw(random, n);
         let mut readings = draw_series(random, room.hours);
         if random.once_in(4) {
             spoil(random, &mut readings);
         }
-        let lent = draw_lent_length(random, room.hours);
-        let after: Vec<i32> = draw_held(random, lent.saturating_sub(room.hours));
-        readings.truncate(lent);
-        readings.extend(after);
+        draw_resized(random, &mut readings);
         let coefficients = draw_lent_length(random, room.coefficients);
         let codes = draw_lent_length(random, room.codes);
         Make { n, readings, coefficients: draw_held(random, coefficients), codes: draw_held(random, codes) }
@@ -91,9 +87,11 @@ impl Call for Make {
     }
 
     fn given(&self) -> Given {
-        let readings = Lent::holding("readings", &self.readings);
-        let mut coefficients = Lent::holding("coefficients", &self.coefficients);
-        let mut codes = Lent::holding("codes", &self.codes);
+        let needed = Room::of_series(self.n);
+        let readings = Lent::holding("readings", &self.readings, needed.map(|room| room.hours));
+        let mut coefficients =
+            Lent::holding("coefficients", &self.coefficients, needed.map(|room| room.coefficients));
+        let mut codes = Lent::holding("codes", &self.codes, needed.map(|room| room.codes));
         let made = sagivelume::make(self.n, readings.part(), coefficients.part_mut(), codes.part_mut());
         Given::new(Head::of(made)).read(&readings).written(&coefficients).written(&codes)
     }

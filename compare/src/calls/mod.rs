@@ -1,6 +1,6 @@
-//! The calls that are compared, and comparing one kind.
+//! The calls that are compared.
 //!
-//! A new call is a file here with its [`Call`], and its line in `main.rs`.
+//! A new call is a file here with its [`Call`], and its line in [`KINDS`].
 
 mod ask;
 mod ask_view;
@@ -16,18 +16,14 @@ mod stopped;
 mod turn_back;
 mod write_record;
 
-use std::collections::BTreeMap;
-use std::fmt;
-use std::iter::successors;
-use std::panic::{catch_unwind, AssertUnwindSafe};
-
 use sagivelume::{Answer, Reading};
-use second::answer::answer;
-use second::random::Random;
 
+use crate::compared::{compare, compare_one, drawn, Compared, Difference};
+use crate::drawing::Drawing;
 use crate::given::{field, Given, Head};
 use crate::numbers::Room;
 use crate::records::{hours_stated, HEADER};
+use crate::tally::Tally;
 
 pub use ask::Ask;
 pub use ask_view::AskView;
@@ -55,7 +51,7 @@ pub trait Call: Sized {
     fn edges() -> Vec<Self>;
 
     /// A drawn call.
-    fn draw(random: &mut Random) -> Self;
+    fn draw(random: &mut Drawing) -> Self;
 
     /// The call that is made after a drawn one, if one belongs to it: that of the next column.
     fn next(&self) -> Option<Self> {
@@ -117,91 +113,78 @@ fn answer_fields(answer: Answer) -> [String; 6] {
     [first_hour, first, last_hour, last, low, high]
 }
 
-/// How often each outcome of one kind of call occurred.
-pub struct Tally {
-    name: &'static str,
-    listed: &'static [&'static str],
-    seen: BTreeMap<String, usize>,
+/// One kind of call, whichever it is.
+#[derive(Clone, Copy)]
+pub struct Kind {
+    /// Its name in the second program's lines.
+    pub name: &'static str,
+    /// Every outcome that it can have.
+    pub outcomes: &'static [&'static str],
+    /// Compares its edge calls and so many drawn ones of a seed, up to the first difference.
+    pub compare: fn(seed: u64, calls: usize) -> Result<Tally, Box<Difference>>,
+    /// The number of its edge calls.
+    pub edges: fn() -> usize,
+    /// Compares the first edge call and then every `step`-th, this many of them at most, and tells of each.
+    pub soak_edges: fn(step: usize, most: usize, told: Told<'_>),
+    /// Compares this many calls, drawn ones and those that belong to them, and tells of each.
+    pub soak_drawn: fn(random: &mut Drawing, calls: usize, told: Told<'_>),
 }
 
-impl Tally {
-    /// A line for each outcome that never occurred, and for each that did and is not listed.
-    pub fn lacking(&self) -> Vec<String> {
-        let never = self.listed.iter().filter(|&&outcome| !self.seen.contains_key(outcome));
-        let unlisted = self.seen.keys().filter(|seen| !self.listed.contains(&seen.as_str()));
-        let name = self.name;
-        never
-            .map(|outcome| format!("{name}: `{outcome}` never occurred"))
-            .chain(unlisted.map(|seen| format!("{name}: `{seen}` occurred, which this call cannot have")))
-            .collect()
+/// Is told of each call.
+pub type Told<'a> = &'a mut dyn FnMut(Result<Compared, Box<Difference>>);
+
+impl Kind {
+    /// The kind of a call.
+    pub const fn of<C: Call>() -> Kind {
+        Kind {
+            name: C::NAME,
+            outcomes: C::OUTCOMES,
+            compare: compare::<C>,
+            edges: || C::edges().len(),
+            soak_edges: |step, most, told| {
+                C::edges().iter().step_by(step).take(most).for_each(|call| told(compare_one(call)));
+            },
+            soak_drawn: |random, calls, told| {
+                let mut left = calls;
+                while left > 0 {
+                    for compared in drawn::<C>(random).take(left) {
+                        left -= 1;
+                        told(compared);
+                    }
+                }
+            },
+        }
     }
 }
 
-impl fmt::Display for Tally {
-    fn fmt(&self, f: &mut fmt::Formatter<'_>) -> fmt::Result {
-        let times = |outcome: &str| self.seen.get(outcome).copied().unwrap_or(0);
-        let outcomes: Vec<String> =
-            self.listed.iter().map(|outcome| format!("{} {outcome}", times(outcome))).collect();
-        write!(f, "{} {} calls: {}", self.name, self.seen.values().sum::<usize>(), outcomes.join(", "))
-    }
-}
-
-/// A call on which the two sides differ, or that changed what it may not.
-pub struct Difference {
-    call: String,
-    proved: String,
-    second: String,
-    faults: Vec<String>,
-}
-
-impl fmt::Display for Difference {
-    fn fmt(&self, f: &mut fmt::Formatter<'_>) -> fmt::Result {
-        writeln!(f, "difference; the call is a line for `second answer`:")?;
-        writeln!(f, "{}", self.call)?;
-        writeln!(f, "the proved store gives:")?;
-        writeln!(f, "{}", self.proved)?;
-        writeln!(f, "the second program gives:")?;
-        write!(f, "{}", self.second)?;
-        self.faults.iter().try_for_each(|fault| write!(f, "\n{fault}"))
-    }
-}
-
-/// Compares the edge calls of one kind and then this many drawn ones, each with those that belong to it. Each kind
-/// draws from the seed anew, so that a kind's calls do not depend on the kinds before it.
-pub fn compare<C: Call>(seed: u64, calls: usize) -> Result<Tally, Box<Difference>> {
-    let mut random = Random::new(seed);
-    let mut tally = Tally { name: C::NAME, listed: C::OUTCOMES, seen: BTreeMap::new() };
-    let drawn = (0..calls).flat_map(|_| successors(Some(C::draw(&mut random)), C::next));
-    for call in C::edges().into_iter().chain(drawn) {
-        let outcome = compare_one(&call)?;
-        *tally.seen.entry(outcome).or_default() += 1;
-    }
-    Ok(tally)
-}
-
-/// Compares one call and tells its outcome.
-fn compare_one<C: Call>(call: &C) -> Result<String, Box<Difference>> {
-    let line = call.line();
-    let second = answer(line.as_bytes());
-    let given =
-        catch_unwind(AssertUnwindSafe(|| call.given())).unwrap_or_else(|_| Given::new(Head::Panicked));
-    if given.answer == second && given.faults.is_empty() {
-        Ok(call.outcome(&given.head))
-    } else {
-        Err(Box::new(Difference { call: line, proved: given.answer, second, faults: given.faults }))
-    }
-}
+/// Every kind of call. A new kind takes its line here.
+pub const KINDS: [Kind; 13] = [
+    Kind::of::<Make>(),
+    Kind::of::<TurnBack>(),
+    Kind::of::<Level>(),
+    Kind::of::<WriteRecord>(),
+    Kind::of::<ReadRecord>(),
+    Kind::of::<Open>(),
+    Kind::of::<Ask>(),
+    Kind::of::<AskView>(),
+    Kind::of::<Edges>(),
+    Kind::of::<StoppedAt>(),
+    Kind::of::<FinishedColumn>(),
+    Kind::of::<Join>(),
+    Kind::of::<DayChange>(),
+];
 
 #[cfg(test)]
 mod tests {
     use sagivelume::Refusal;
+    use second::answer::answer;
 
     use super::*;
 
     /// Every call is one that the second program takes or refuses, and the same seed draws the same calls.
     fn lines_are_calls<C: Call>() {
-        let drawn = |random: &mut Random| C::draw(random).line();
-        let (mut random, mut again) = (Random::new(5), Random::new(5));
+        let drawn = |random: &mut Drawing| C::draw(random).line();
+        let (mut random, mut again) = (Drawing::new(5), Drawing::new(5));
         for _ in 0..300 {
             let line = drawn(&mut random);
             assert_eq!(line, drawn(&mut again));
@@ -241,15 +224,5 @@ mod tests {
         assert_eq!(outcome_of_record(&refused(4, 4), &record), "refused 4 at a pair");
         assert_eq!(outcome_of_record(&refused(11, 0), &record), "refused 11");
         assert_eq!(outcome_of_record(&Head::Taken(vec![]), &record), "taken");
-    }
-
-    #[test]
-    fn outcomes_that_lack_are_told() {
-        let seen = [("taken", 2), ("refused 4", 1)].map(|(outcome, times)| (String::from(outcome), times));
-        let tally = Tally { name: "make", listed: &["taken", "refused 1"], seen: BTreeMap::from(seen) };
-        assert_eq!(tally.to_string(), "make 3 calls: 2 taken, 0 refused 1");
-        let lacking =
-            ["make: `refused 1` never occurred", "make: `refused 4` occurred, which this call cannot have"];
-        assert_eq!(tally.lacking(), lacking);
     }
 }

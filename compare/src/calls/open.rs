@@ -1,12 +1,12 @@
 //! Opening a record.
 
-use second::random::Random;
-
 use super::{outcome_of_record, Call};
+use crate::drawing::Drawing;
+use crate::drawn_records::draw_record;
 use crate::given::{Given, Head};
 use crate::lent::Lent;
 use crate::line::Line;
-use crate::records::{draw_record, edge_records};
+use crate::records::{bytes_needed, edge_records};
 
 /// `open | record`
 pub struct Open {
@@ -29,7 +29,7 @@ impl Call for Open {
         edge_records().into_iter().map(|bytes| Open { bytes }).collect()
     }
 
-    fn draw(random: &mut Random) -> Open {
+    fn draw(random: &mut Drawing) -> Open {
         Open { bytes: draw_record(random) }
     }
 
@@ -38,7 +38,7 @@ impl Call for Open {
     }
 
     fn given(&self) -> Given {
-        let record = Lent::holding("record", &self.bytes);
+        let record = Lent::holding("record", &self.bytes, bytes_needed(&self.bytes));
         let opened = sagivelume::open_record(record.part());
         let head = Head::answering(opened.map(|opened| [opened.hours(), opened.places()]));
         Given::new(head).read(&record)

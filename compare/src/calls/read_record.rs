@@ -1,13 +1,13 @@
 //! Reading a record.
 
-use second::random::Random;
-
 use super::{outcome_of_record, Call};
+use crate::drawing::Drawing;
+use crate::drawn_records::draw_record;
 use crate::given::{Given, Head};
 use crate::lent::Lent;
 use crate::line::Line;
 use crate::numbers::{draw_held, draw_lent_length, Room, EDGES_OF_N, EDGE_LENGTHS, EVERY_P};
-use crate::records::{draw_record, edge_records, faults_together, hours_stated, record_of, record_of_equal};
+use crate::records::{bytes_needed, edge_records, faults_together, hours_stated, record_of, record_of_equal};
 use crate::series::edge_series;
 use crate::tables::{edge_tables, Table};
 
@@ -69,7 +69,7 @@ impl Call for ReadRecord {
         calls
     }
 
-    fn draw(random: &mut Random) -> ReadRecord {
+    fn draw(random: &mut Drawing) -> ReadRecord {
         let bytes = draw_record(random);
         let room = Room::of(hours_stated(&bytes));
         let coefficients = draw_lent_length(random, room.coefficients);
@@ -83,9 +83,11 @@ impl Call for ReadRecord {
     }
 
     fn given(&self) -> Given {
-        let record = Lent::holding("record", &self.bytes);
-        let mut coefficients = Lent::holding("coefficients", &self.coefficients);
-        let mut codes = Lent::holding("codes", &self.codes);
+        let needed = Room::of_series(hours_stated(&self.bytes));
+        let record = Lent::holding("record", &self.bytes, bytes_needed(&self.bytes));
+        let mut coefficients =
+            Lent::holding("coefficients", &self.coefficients, needed.map(|room| room.coefficients));
+        let mut codes = Lent::holding("codes", &self.codes, needed.map(|room| room.codes));
         let read = sagivelume::read_record(record.part(), coefficients.part_mut(), codes.part_mut());
         let head = Head::answering(read.map(|hours| [hours]));
         Given::new(head).read(&record).written(&coefficients).written(&codes)

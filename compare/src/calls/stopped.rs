@@ -3,11 +3,11 @@
 use std::rc::Rc;
 
 use sagivelume::{Column, LowHigh, Refusal, Stopped};
-use second::random::Random;
 
 use super::Call;
 use crate::columns::{causes_in_columns, columns, columns_of_windows, edge_columns, every_column};
 use crate::columns::{draw_column, next_column, numbers_of, SMALL_IN_32_BITS};
+use crate::drawing::Drawing;
 use crate::given::{field, Given, Head};
 use crate::lent_tables::{self, draw_lent, LentTable, NO_HOUR, UNSOUND_ELSEWHERE};
 use crate::line::Line;
@@ -85,7 +85,7 @@ impl Call for StoppedAt {
         calls
     }
 
-    fn draw(random: &mut Random) -> StoppedAt {
+    fn draw(random: &mut Drawing) -> StoppedAt {
         let n = draw_n(random);
         let column = draw_column(random, n);
         let table = draw_lent(random, n, column);

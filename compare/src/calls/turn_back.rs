@@ -1,12 +1,11 @@
 //! Turning a table back.
 
-use second::random::Random;
-
 use super::{outcome_of_table, Call};
+use crate::drawing::Drawing;
 use crate::given::{Given, Head};
 use crate::lent::Lent;
 use crate::line::Line;
-use crate::numbers::{draw_held, draw_lent_length, draw_n, Room, EDGES_OF_N, EDGE_LENGTHS};
+use crate::numbers::{draw_held, draw_lent_length, draw_n, draw_resized, Room, EDGES_OF_N, EDGE_LENGTHS};
 use crate::series::edge_series;
 use crate::tables::{draw_table, edge_tables, Table};
 
@@ -60,14 +59,12 @@ impl Call for TurnBack {
         calls
     }
 
-    fn draw(random: &mut Random) -> TurnBack {
+    fn draw(random: &mut Drawing) -> TurnBack {
         let n = draw_n(random);
         let room = Room::draw(random, n);
         let Table { mut coefficients, mut codes } = draw_table(random, room);
-        let lent = draw_lent_length(random, room.coefficients);
-        coefficients.resize(lent, i32::MIN);
-        let lent = draw_lent_length(random, room.codes);
-        codes.resize(lent, 255);
+        draw_resized(random, &mut coefficients);
+        draw_resized(random, &mut codes);
         let hours = draw_lent_length(random, room.hours);
         TurnBack { n, coefficients, codes, hours: draw_held(random, hours) }
     }
@@ -78,9 +75,11 @@ impl Call for TurnBack {
     }
 
     fn given(&self) -> Given {
-        let coefficients = Lent::holding("coefficients", &self.coefficients);
-        let codes = Lent::holding("codes", &self.codes);
-        let mut hours = Lent::holding("hours", &self.hours);
+        let needed = Room::of_series(self.n);
+        let coefficients =
+            Lent::holding("coefficients", &self.coefficients, needed.map(|room| room.coefficients));
+        let codes = Lent::holding("codes", &self.codes, needed.map(|room| room.codes));
+        let mut hours = Lent::holding("hours", &self.hours, needed.map(|room| room.hours));
         let turned = sagivelume::turn_back(self.n, coefficients.part(), codes.part(), hours.part_mut());
         Given::new(Head::of(turned)).read(&coefficients).read(&codes).written(&hours)
     }

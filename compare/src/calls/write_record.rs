@@ -1,12 +1,13 @@
 //! Writing a record.
 
-use second::random::Random;
-
 use super::{outcome_of_table, Call};
+use crate::drawing::Drawing;
 use crate::given::{Given, Head};
 use crate::lent::Lent;
 use crate::line::Line;
-use crate::numbers::{draw_held, draw_lent_length, draw_n, Room, EDGES_OF_N, EDGE_LENGTHS, EVERY_P};
+use crate::numbers::{
+    draw_held, draw_lent_length, draw_n, draw_resized, Room, EDGES_OF_N, EDGE_LENGTHS, EVERY_P,
+};
 use crate::records::unsound_tables;
 use crate::series::edge_series;
 use crate::tables::{draw_table, edge_tables, Table};
@@ -80,14 +81,12 @@ impl Call for WriteRecord {
         calls
     }
 
-    fn draw(random: &mut Random) -> WriteRecord {
+    fn draw(random: &mut Drawing) -> WriteRecord {
         let n = draw_n(random);
         let room = Room::draw(random, n);
         let Table { mut coefficients, mut codes } = draw_table(random, room);
-        let lent = draw_lent_length(random, room.coefficients);
-        coefficients.resize(lent, i32::MIN);
-        let lent = draw_lent_length(random, room.codes);
-        codes.resize(lent, 255);
+        draw_resized(random, &mut coefficients);
+        draw_resized(random, &mut codes);
         let bytes = draw_lent_length(random, room.record());
         WriteRecord { n, coefficients, codes, bytes: draw_held(random, bytes) }
     }
@@ -98,9 +97,11 @@ impl Call for WriteRecord {
     }
 
     fn given(&self) -> Given {
-        let coefficients = Lent::holding("coefficients", &self.coefficients);
-        let codes = Lent::holding("codes", &self.codes);
-        let mut record = Lent::holding("record", &self.bytes);
+        let needed = Room::of_series(self.n);
+        let coefficients =
+            Lent::holding("coefficients", &self.coefficients, needed.map(|room| room.coefficients));
+        let codes = Lent::holding("codes", &self.codes, needed.map(|room| room.codes));
+        let mut record = Lent::holding("record", &self.bytes, needed.map(Room::record));
         let written = sagivelume::write_record(self.n, coefficients.part(), codes.part(), record.part_mut());
         let head = Head::answering(written.map(|bytes| [bytes]));
         Given::new(head).read(&coefficients).read(&codes).written(&record)
