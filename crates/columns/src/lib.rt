@@ -1,5 +1,8 @@
 // What the tablet draws: the edges of a column, a column stopped at a depth and a finished one, two answers joined, and
 // the change of a day.
+mod days;
+mod window;
+
 use walking::Descended;
 use walking::Inner;
 use walking::Reached;
@@ -17,78 +20,22 @@ use words::Summary;
 use words::Taking;
 use words::Timestamp;
 ghost use mathlib.Core.Path.{_≡_};
-ghost use mathlib.Core.Bool.{not, _&&_, _||_};
-ghost use Prim.Native.Nat.{_+_, _*_, _≤_, _<_};
-ghost use lib.Dec.{leb, ltb, eqb};
-ghost use Rattle.words.specs.Constants.{largestHours, mostColumns, dayHours};
+ghost use Prim.Native.Nat.{_+_, _*_, _≤_};
+ghost use Rattle.words.specs.Constants.{largestHours};
 ghost use Rattle.om3.specs.Table.{lent as table};
 ghost use Rattle.om3.specs.Calls.{takingBy};
-ghost use Rattle.om3.specs.Columns.{edge as edgeOf, column as columnOf, edgesBy, edges as edgesOf};
+ghost use Rattle.om3.specs.Columns.{edges as edgesOf};
 ghost use Rattle.om3.specs.Stopped.{stopped as stoppedOf};
 ghost use Rattle.om3.specs.Finished.{finished as finishedOf};
 ghost use Rattle.om3.specs.Joined.{joined};
-ghost use Rattle.om3.specs.Days.{day as dayOf, changeOf, dayChange};
+ghost use Rattle.om3.specs.Days.{dayChange};
 ghost use Rattle.turning.specs.Turning.{TableLent};
 ghost use Rattle.walking.specs.Nodes.{Below};
-ghost use Rattle.columns.specs.Drawing.{Edged, lentChecks, windowChecks, innerRange};
-ghost use Rattle.columns.specs.Drawing.{StoppedOver, StoppedAt, FoundFrom, FinishedOver, SmallAnswer};
+ghost use Rattle.columns.specs.Drawing.{lentChecks, innerRange};
+ghost use Rattle.columns.specs.Drawing.{StoppedOver, StoppedAt, FoundFrom, FinishedOver};
 
 // The count of a column without an hour.
 const NO_NODES: usize = 0;
-
-// Check 5: whether [a, b) is no window of n hours.
-fn bad_window(n: usize, a: Timestamp, b: Timestamp) -> bool
-    ensures { λ r. ⌜ r ≡ not (ltb (a .0) (b .0) && leb (b .0) n) ⌝ }
-{
-    if a.0 < b.0 {
-        if b.0 <= n {
-            return false;
-        }
-    }
-    true
-}
-
-// Check 6: whether w is no number of columns, or k none of them.
-fn bad_column(w: usize, k: usize) -> bool
-    ensures { λ r. ⌜ r ≡ (eqb w 0 || ltb mostColumns w || leb w k) ⌝ }
-{
-    if w == 0 {
-        return true;
-    }
-    if words::MOST_COLUMNS < w {
-        return true;
-    }
-    w <= k
-}
-
-// The first hour of column k of [a, b) in w columns, or, for k = w, the window's end. Needs a window of at most 16,384
-// hours and k at most w, w from 1 to 4,096.
-fn edge(a: Timestamp, b: Timestamp, w: usize, k: usize) -> Timestamp
-    requires { ⌜ Edged (a .0) (b .0) w k ⌝ }
-    ensures { λ r. ⌜ r ≡ edgeOf (a .0) (b .0) w k ⌝ }
-{
-    let length = b.0 - a.0;
-    let passed = k * length;
-    let cut = (passed + (w - 1)) / w;
-    let hour = a.0 + cut;
-    Timestamp(hour)
-}
-
-// Checks 5 and 6, and then the column's hours. Needs n to be at most 16,384.
-fn window_column(n: usize, a: Timestamp, b: Timestamp, w: usize, k: usize) -> Edges
-    requires { ⌜ n ≤ largestHours ⌝ }
-    ensures { λ r. ⌜ r ≡ edgesBy (windowChecks n (a .0) (b .0) w k) (columnOf (a .0) (b .0) w k) ⌝ }
-{
-    if bad_window(n, a, b) {
-        return Edges::Refused(Refusal::BadWindow);
-    }
-    if bad_column(w, k) {
-        return Edges::Refused(Refusal::BadColumn);
-    }
-    let from = edge(a, b, w, k);
-    let upto = edge(a, b, w, k + 1);
-    Edges::Hours(Column { from, upto })
-}
 
 // The hours of column k of the window [a, b) in w columns. Refusals in the order 1, 5, 6.
 pub fn edges(n: usize, a: Timestamp, b: Timestamp, w: usize, k: usize) -> Edges
@@ -97,7 +44,7 @@ pub fn edges(n: usize, a: Timestamp, b: Timestamp, w: usize, k: usize) -> Edges
     if sizes::bad_hours(n) {
         return Edges::Refused(Refusal::BadHours);
     }
-    window_column(n, a, b, w, k)
+    window::column_of(n, a, b, w, k)
 }
 
 // Checks 1 and 3 of a table.
@@ -202,7 +149,7 @@ pub fn stopped(
     if let Taking::Refused(why) = check_lent(n, coefficients, codes) {
         return Stopped::Refused(why);
     }
-    match window_column(n, a, b, w, k) {
+    match window::column_of(n, a, b, w, k) {
         Edges::Refused(why) => Stopped::Refused(why),
         Edges::Hours(x) => stopped_at(n, coefficients, codes, x, d),
     }
@@ -299,7 +246,7 @@ pub fn finished(
     if let Taking::Refused(why) = check_lent(n, coefficients, codes) {
         return Finished::Refused(why);
     }
-    match window_column(n, a, b, w, k) {
+    match window::column_of(n, a, b, w, k) {
         Edges::Refused(why) => Finished::Refused(why),
         Edges::Hours(x) => finished_over(n, coefficients, codes, x),
     }
@@ -327,40 +274,6 @@ pub fn join(left: Answer, right: Answer) -> Answer
     }
 }
 
-// Last reading minus first reading of an answer. Needs both to be from -1,000,000 to 2,000,003 grams.
-// [forms 10]
-fn change(answer: Answer) -> DayChange
-    requires { ⌜ SmallAnswer answer ⌝ }
-    ensures { λ r. ⌜ r ≡ changeOf answer ⌝ }
-{
-    match answer {
-        Answer::NoReading => DayChange::NoReading,
-        Answer::Found(s) => {
-            let grams = s.last.grams - s.first.grams;
-            DayChange::Grams(grams)
-        }
-    }
-}
-
-// The hours of day d of n hours. Needs it to have some, and n to be at most 16,384.
-fn day(n: usize, d: usize) -> Column
-    requires { ⌜ (dayHours * d < n) × (n ≤ largestHours) ⌝ }
-    ensures { λ r. ⌜ r ≡ dayOf n d ⌝ }
-{
-    let from = words::DAY_HOURS * d;
-    let next = from + words::DAY_HOURS;
-    if n < next {
-        return Column {
-            from: Timestamp(from),
-            upto: Timestamp(n),
-        };
-    }
-    Column {
-        from: Timestamp(from),
-        upto: Timestamp(next),
-    }
-}
-
 // Day d's last reading minus its first. Refusals in the order 1, 3, 5, 4.
 pub fn day_change(n: usize, coefficients: &[i32], codes: &[u8], d: usize) -> DayChange
     ensures { λ r. ⌜ r ≡ dayChange n (table (now (coefficients .entry)) (now (codes .entry))) d ⌝ }
@@ -375,9 +288,9 @@ pub fn day_change(n: usize, coefficients: &[i32], codes: &[u8], d: usize) -> Day
     if n <= words::DAY_HOURS * d {
         return DayChange::Refused(Refusal::BadWindow);
     }
-    let x = day(n, d);
+    let x = days::hours_of(n, d);
     match finished_over(n, coefficients, codes, x) {
         Finished::Refused(why) => DayChange::Refused(why),
-        Finished::Answered { answer, count: _ } => change(answer),
+        Finished::Answered { answer, count: _ } => days::change_of(answer),
     }
 }

@@ -2,7 +2,7 @@
 -- read are written again as they were; the record's length. Assumes nothing.
 use mathlib.Core.Path.{_≡_, refl, sym, ap, _∙_}
 use mathlib.Core.List.{List, [], _∷_, _++_}
-use Prim.Native.Nat.{ℕ, zero, suc, _+_, _-_, _*_, _/_, _%_, _^_, _≤_, _<_}
+use Prim.Native.Nat.{ℕ, zero, suc, _+_, _*_, _/_, _%_, _^_, _≤_, _<_}
 use native.Mathlib.Nat.{pow-suc, div-div-eq-div-mul, div-eq-of-lt, mul-assoc, mul-comm, add-mul, suc-mul, div-one}
 use native.Mathlib.Nat.{mul-le-mul-right, mul-add-div-right, pow-le-pow-right}
 use native.Mathlib.Omega.{arith}

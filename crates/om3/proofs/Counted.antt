@@ -16,7 +16,7 @@ use Rattle.om3.specs.Stopped.{opened, countAt}
 use Rattle.om3.proofs.Tests.{below-or-not}
 use Rattle.om3.proofs.Intervals.{shares-overlap, within-inside}
 use Rattle.om3.proofs.Opened.{opened-opens, unopened-if, node-cut}
-use Rattle.om3.proofs.Walked.{opened-kept, unopened-kept}
+use Rattle.om3.proofs.BelowOpened.{opened-kept, unopened-kept}
 
 module _ (l : ℕ) (t : Table) (x : Column) (d : ℕ) where
   -- A node before the column, after it or wholly inside it is not opened, nor is one of level d or more.

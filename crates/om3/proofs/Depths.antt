@@ -16,9 +16,9 @@ use Rattle.om3.specs.Stopped.{shares, inside, opened, visited, outer, in
 use Rattle.om3.specs.Looked.{LiesWithin}
 use Rattle.om3.proofs.Nodes.{InTree}
 use Rattle.om3.proofs.Opened.{opened-opens, unopened-if}
-use Rattle.om3.proofs.Walked.{visited-left, visited-right, visited-root}
-use Rattle.om3.proofs.Walks.{inside-shares, opened-or-inside, opened-deeper, AtEnds, GoingOn, each-visited}
-use Rattle.om3.proofs.Walks.{root-visited}
+use Rattle.om3.proofs.BelowOpened.{visited-left, visited-right, visited-root}
+use Rattle.om3.proofs.EachVisited.{inside-shares, opened-or-inside, opened-deeper, AtEnds, GoingOn, each-visited}
+use Rattle.om3.proofs.EachVisited.{root-visited}
 use Rattle.om3.proofs.RangesBelow.{outerBelow, innerBelow, outer-root, inner-root, outer-opened, inner-opened}
 use Rattle.om3.proofs.RangesBelow.{outer-unopened, inner-unopened}
 use Rattle.om3.proofs.RangesWithin.{within-refl, within-trans, both-widen}

@@ -24,7 +24,7 @@ use Rattle.om3.proofs.Nodes.{InTree, left-in, right-in, start-root, wid
 use Rattle.om3.proofs.Ranges.{range-halves}
 use Rattle.om3.proofs.Intervals.{Within, in-column, column-in, overlap-shares, inside-within}
 use Rattle.om3.proofs.Opened.{node-cut}
-use Rattle.om3.proofs.Walks.{AtEnds, GoingOn, root-visited}
+use Rattle.om3.proofs.EachVisited.{AtEnds, GoingOn, root-visited}
 use Rattle.om3.proofs.RangesBelow.{outerBelow, innerBelow, outer-root, inner-root, outer-opened, inner-opened}
 use Rattle.om3.proofs.RangesBelow.{outer-unopened, inner-unopened}
 use Rattle.om3.proofs.RangesWithin.{within-same, both-within, first-covers, second-covers}

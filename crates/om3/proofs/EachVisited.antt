@@ -14,7 +14,7 @@ use Rattle.om3.specs.Stopped.{hasReading, shares, inside, opened, visite
 use Rattle.om3.proofs.Nodes.{InTree, root-in, left-in, right-in, width-hour}
 use Rattle.om3.proofs.Intervals.{width-some, shares-overlap, overlap-shares, inside-within, within-inside}
 use Rattle.om3.proofs.Opened.{opened-opens, opens-opened, unopened-if}
-use Rattle.om3.proofs.Walked.{visited-left, visited-right, visited-root}
+use Rattle.om3.proofs.BelowOpened.{visited-left, visited-right, visited-root}
 
 module _ (l : ℕ) (x : Column) (v : Node) where
   -- A node wholly inside the column shares an hour with it, since it has one.

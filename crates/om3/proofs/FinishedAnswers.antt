@@ -26,7 +26,7 @@ use Rattle.om3.proofs.Answers.{joined-right}
 use Rattle.om3.proofs.LookedThrough.{rangeOfAnswer, range-joined}
 use Rattle.om3.proofs.NodeAnswers.{nodeAnswer, Begins, Ends, begins-joined, ends-joined, joinedOver}
 use Rattle.om3.proofs.NodeAnswers.{reached-answer}
-use Rattle.om3.proofs.WalksDown.{walk-first, walk-last}
+use Rattle.om3.proofs.WalksEnd.{walk-first, walk-last}
 use Rattle.om3.proofs.InnerAnswers.{inner-looks}
 use Rattle.om3.proofs.KeptNodes.{NonEmpty, inner-non-empty}
 

@@ -22,8 +22,8 @@ use Rattle.om3.specs.Stopped.{hasReading, shares, inside, opened, isInne
 use Rattle.om3.specs.Joined.{joined}
 use Rattle.om3.specs.Looked.{lookThrough}
 use Rattle.om3.proofs.Nodes.{InTree}
-use Rattle.om3.proofs.Walked.{inner-kept, inner-end}
-use Rattle.om3.proofs.Walks.{opened-or-inside, AtEnds, GoingOn, root-visited}
+use Rattle.om3.proofs.BelowOpened.{inner-kept, inner-end}
+use Rattle.om3.proofs.EachVisited.{opened-or-inside, AtEnds, GoingOn, root-visited}
 use Rattle.om3.proofs.Answers.{joined-right}
 use Rattle.om3.proofs.LookedThrough.{look-through-append}
 use Rattle.om3.proofs.NodeAnswers.{nodeAnswer, no-answer, joinedOver, joined-over-append}

@@ -35,9 +35,9 @@ pub mod RecordsTaken
 pub mod Edges
 pub mod Intervals
 pub mod Opened
-pub mod Walked
+pub mod BelowOpened
 pub mod Counted
-pub mod Walks
+pub mod EachVisited
 pub mod RangesBelow
 pub mod RangesWithin
 pub mod Depths
@@ -46,7 +46,7 @@ pub mod Answers
 pub mod Windows
 pub mod LookedThrough
 pub mod NodeAnswers
-pub mod WalksDown
+pub mod WalksEnd
 pub mod KeptHours
 pub mod InnerAnswers
 pub mod KeptNodes

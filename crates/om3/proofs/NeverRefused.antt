@@ -20,7 +20,7 @@ use Rattle.om3.specs.Finished.{walks, examineFinished}
 use Rattle.om3.proofs.Nodes.{InTree, root-in}
 use Rattle.om3.proofs.Listed.{All, all-append}
 use Rattle.om3.proofs.SoundTables.{root-sound, node-sound}
-use Rattle.om3.proofs.WalksDown.{Taken, first-taken, last-taken}
+use Rattle.om3.proofs.WalksEnd.{Taken, first-taken, last-taken}
 use Rattle.om3.proofs.KeptNodes.{Above, NonEmpty, opened-above, inner-non-empty}
 
 walk-above : (l : ℕ) (half : Node → Node) → ((v : Node) → InTree l v → v .level < l → Taken l v (half v))

@@ -19,7 +19,8 @@ use Rattle.om3.specs.Finished.{walk, walkEnd, lastOr, finished}
 use Rattle.om3.specs.Days.{dayChange}
 use Rattle.om3.specs.Text.{split, windowLine, hourLine, withoutEnd}
 use Rattle.om3.specs.Printed.{digitsOf, decimal, columnLines, checkLines, checkNumbers, printed}
-use Rattle.om3.specs.Numbers.{Case, replyTo, numbers, unmarked, outside, further, printing}
+use Rattle.om3.specs.Questions.{replyTo}
+use Rattle.om3.specs.Numbers.{Case, numbers, unmarked, outside, further, printing}
 
 -- Each question of a list is replied to as the list says.
 abbrev pub Holds : List Case → Type 0

@@ -17,8 +17,8 @@ use Rattle.om3.specs.Sound.{nodesBelow}
 use Rattle.om3.specs.Stopped.{hasReading, shares, inside, opened, visited, rangeOver, isOuter, outer, isInner}
 use Rattle.om3.specs.Stopped.{innerNodes, inner}
 use Rattle.om3.proofs.Ranges.{both-empty}
-use Rattle.om3.proofs.Walked.{range-append, outer-kept, outer-end, inner-kept, inner-end}
-use Rattle.om3.proofs.Walks.{inside-shares}
+use Rattle.om3.proofs.BelowOpened.{range-append, outer-kept, outer-end, inner-kept, inner-end}
+use Rattle.om3.proofs.EachVisited.{inside-shares}
 
 -- Where an empty range gives itself, it need not be asked whether there is a reading.
 reading-range : (r : Range) (b : Bool) → cond (not (isEmpty r) && b) r Empty ≡ cond b r Empty

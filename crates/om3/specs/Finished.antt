@@ -4,6 +4,7 @@
 --   levelsOf l w                    how many levels it walks down
 --   nodesOf l w, endOf l w          the nodes it walks through, from the starting node down to the pair; its end
 --   towardsFirst v, towardsLast v   the half that the walk to the first, and to the last, reading takes
+--   readingAt v                     the reading of a single hour, as it is reached by going down
 --   earliest, latest                the earliest and the latest non-empty inside visited node
 --   walks r                         the walks of a column with the range r, in their order
 --   answer, count                   what a finished column says, and its count

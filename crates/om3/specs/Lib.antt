@@ -20,4 +20,5 @@ pub mod Text
 pub mod Printed
 pub mod Looked
 pub mod Drawn
+pub mod Questions
 pub mod Numbers

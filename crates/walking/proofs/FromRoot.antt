@@ -17,7 +17,7 @@ use Rattle.om3.specs.Sound.{soundRootValues, examine}
 use Rattle.om3.specs.Stopped.{outer, innerNodes}
 use Rattle.om3.proofs.Levels.{2≤P, P-even}
 use Rattle.om3.proofs.Located.{root-located}
-use Rattle.om3.proofs.Walked.{visited-root}
+use Rattle.om3.proofs.BelowOpened.{visited-root}
 use Rattle.node.specs.declared.Root.{Root}
 use Rattle.node.specs.Steps.{rootOf}
 use Rattle.turning.specs.Turning.{TableLent}

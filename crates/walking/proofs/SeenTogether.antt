@@ -13,7 +13,7 @@ use Rattle.om3.specs.Down.{reached}
 use Rattle.om3.specs.Stopped.{rangeOver}
 use Rattle.om3.specs.Finished.{lastOr}
 use Rattle.om3.proofs.Ranges.{both-empty}
-use Rattle.om3.proofs.Walked.{range-append}
+use Rattle.om3.proofs.BelowOpened.{range-append}
 use Rattle.walking.specs.Nodes.{reachedOf, At, touchesOf}
 use Rattle.walking.specs.Seen.{unopenedOf, bothInner, bothSeen, innerOver}
 use Rattle.walking.specs.declared.Reached.{Reached}

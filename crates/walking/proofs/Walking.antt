@@ -19,8 +19,8 @@ use Rattle.om3.specs.Sound.{soundNode, nodesBelow, examineNode}
 use Rattle.om3.specs.Stopped.{hasReading, shares, inside, opened, visited, isOuter, isInner}
 use Rattle.om3.proofs.Located.{above-hours}
 use Rattle.om3.proofs.Examined.{in-order-append}
-use Rattle.om3.proofs.Walked.{visited-left, visited-right, opened-kept, unopened-kept, outer-kept, outer-end}
-use Rattle.om3.proofs.Walked.{inner-kept, inner-end, range-append}
+use Rattle.om3.proofs.BelowOpened.{visited-left, visited-right, opened-kept, unopened-kept, outer-kept, outer-end}
+use Rattle.om3.proofs.BelowOpened.{inner-kept, inner-end, range-append}
 use Rattle.node.specs.declared.Halves.{Halves}
 use Rattle.turning.specs.Turning.{examineNodes}
 use Rattle.turning.proofs.Answers.{Stepped, stepped, not-stepped}

@@ -55,8 +55,8 @@ returns-3 c =
     let told = c .before .before in
     laws.day-late _ _ _ _ (passed told) (c .if2 .taken)
 
-day-requires : tie.Need-day-requires
-day-requires c κs = (c .if2 .left, table (c .before .before) .most)
+hours-of-requires : tie.Need-hours-of-requires
+hours-of-requires c κs = (c .if2 .left, table (c .before .before) .most)
 
 finished-over-requires : tie.Need-finished-over-requires
 finished-over-requires c κs = table (c .before .before .before)
@@ -67,8 +67,8 @@ enum-known-why-2 c = search needs
 enum-known-answer : tie.Need-enum-known-answer
 enum-known-answer c = search needs
 
-change-requires : tie.Need-change-requires
-change-requires c κs =
+change-of-requires : tie.Need-change-of-requires
+change-of-requires c κs =
     let c3 = c .before .before .before in
     c3 .finished-over .ensures .answers .small _ _ (c .before .answer .given .1)
 
@@ -77,7 +77,7 @@ returns-4 c =
     let c3 = c .before .before .before in
     let else = c3 .before .before in
     let told = else .before .before in
-    laws.day-refused _ _ _ _ (passed told) (else .if2 .left) _ (c3 .before .day .ensures) _
+    laws.day-refused _ _ _ _ (passed told) (else .if2 .left) _ (c3 .before .hours-of .ensures) _
     (rw (c .before .why2 .given .1) at (c3 .finished-over .ensures))
 
 returns-5 : tie.Need-returns-5
@@ -85,8 +85,8 @@ returns-5 c =
     let c4 = c .before .before .before .before in
     let else = c4 .before .before in
     let told = else .before .before in
-    rw (c .change .ensures)
-    (laws.day-answered _ _ _ _ (passed told) (else .if2 .left) _ (c4 .before .day .ensures) _ _
+    rw (c .change-of .ensures)
+    (laws.day-answered _ _ _ _ (passed told) (else .if2 .left) _ (c4 .before .hours-of .ensures) _ _
     (rw (c .before .before .answer .given .1) at (c4 .finished-over .ensures)))
 
 pub day-change-spec : {M : Type 1} → statement M
@@ -100,10 +100,10 @@ day-change-spec =
     returns-2
     mul-if2
     returns-3
-    day-requires
+    hours-of-requires
     finished-over-requires
     enum-known-why-2
     enum-known-answer
-    change-requires
+    change-of-requires
     returns-4
     returns-5)

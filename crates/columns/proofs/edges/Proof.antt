@@ -15,15 +15,15 @@ returns c =
     let bad = sym (c .before .bad-hours .ensures) ∙ c .if1 .taken in
     laws.edges-bad-hours (a .n) (a .a .0) (a .b .0) (a .w) (a .k) bad
 
-window-column-requires : tie.Need-window-column-requires
-window-column-requires c κs = good-some _ (sym (c .before .bad-hours .ensures) ∙ c .if1 .left) .1
+column-of-requires : tie.Need-column-of-requires
+column-of-requires c κs = good-some _ (sym (c .before .bad-hours .ensures) ∙ c .if1 .left) .1
 
 returns-2 : tie.Need-returns-2
 returns-2 c =
     let c2 = c .before .before in
     let a = c2 .before .args in
     let good = sym (c2 .bad-hours .ensures) ∙ c .before .if1 .left in
-    laws.edges-window (a .n) (a .a .0) (a .b .0) (a .w) (a .k) good _ (c .window-column .ensures)
+    laws.edges-window (a .n) (a .a .0) (a .b .0) (a .w) (a .k) good _ (c .column-of .ensures)
 
 pub edges-spec : {M : Type 1} → statement M
-edges-spec = tie.close (tie.spec bad-hours-requires returns window-column-requires returns-2)
+edges-spec = tie.close (tie.spec bad-hours-requires returns column-of-requires returns-2)

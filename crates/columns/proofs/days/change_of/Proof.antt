@@ -1,12 +1,12 @@
--- `change` subtracts where there is a reading; both grams are small. Assumes nothing.
+-- `change_of` subtracts where there is a reading; both grams are small. Assumes nothing.
 use mathlib.Core.Path.{ap}
 use borrow.Author.Needs.{needs}
 use Rattle.words.specs.declared.Answer.{Answer}
 use Rattle.words.specs.declared.DayChange.{DayChange}
 use Rattle.columns.specs.Drawing.{SmallAnswer}
 use Rattle.columns.proofs.Daily as laws
-use Rattle.columns.proofs.change.Statement.{statement}
-use Rattle.columns.proofs.change.Tie as tie
+use Rattle.columns.proofs.days.change_of.Statement.{statement}
+use Rattle.columns.proofs.days.change_of.Tie as tie
 
 -- Both readings are small.
 held : (c : tie.After-answer) → SmallAnswer (Answer.Found (c .answer .given .0 .0))
@@ -31,5 +31,5 @@ returns-2 c =
     let c3 = c .before .before .before in
     rw (c3 .answer .given .1) (ap DayChange.Grams (laws.change-is (c3 .answer .given .0 .0) (held c3)))
 
-pub change-spec : {M : Type 1} → statement M
-change-spec = tie.close (tie.spec enum-told enum-known-answer sub-grams returns returns-2)
+pub change-of-spec : {M : Type 1} → statement M
+change-of-spec = tie.close (tie.spec enum-told enum-known-answer sub-grams returns returns-2)

@@ -1,8 +1,8 @@
--- `day` cuts the day at n. Assumes nothing.
+-- `hours_of` cuts the day at n. Assumes nothing.
 use borrow.Author.Needs.{needs}
 use Rattle.columns.proofs.Daily as laws
-use Rattle.columns.proofs.day.Statement.{statement}
-use Rattle.columns.proofs.day.Tie as tie
+use Rattle.columns.proofs.days.hours_of.Statement.{statement}
+use Rattle.columns.proofs.days.hours_of.Tie as tie
 
 mul-from : tie.Need-mul-from
 mul-from c = search needs
@@ -20,5 +20,5 @@ returns-2 c =
     let a = c .before .args in
     laws.day-whole (a .n) (a .d) (c .if1 .left)
 
-pub day-spec : {M : Type 1} → statement M
-day-spec = tie.close (tie.spec mul-from add-next returns returns-2)
+pub hours-of-spec : {M : Type 1} → statement M
+hours-of-spec = tie.close (tie.spec mul-from add-next returns returns-2)

@@ -1,7 +1,7 @@
 -- `bad_column` makes the three tests of the definition. Assumes nothing.
 use borrow.Author.Tests.{eq-eqb, ne-eqb, lt-ltb, le-ltb}
-use Rattle.columns.proofs.bad_column.Statement.{statement}
-use Rattle.columns.proofs.bad_column.Tie as tie
+use Rattle.columns.proofs.window.bad_column.Statement.{statement}
+use Rattle.columns.proofs.window.bad_column.Tie as tie
 
 returns : tie.Need-returns
 returns c = rw (eq-eqb _ _ (c .if1 .taken))

@@ -1,7 +1,7 @@
 -- `bad_window` makes the two tests of the definition. Assumes nothing.
 use borrow.Author.Tests.{lt-ltb, le-ltb, le-leb, lt-leb}
-use Rattle.columns.proofs.bad_window.Statement.{statement}
-use Rattle.columns.proofs.bad_window.Tie as tie
+use Rattle.columns.proofs.window.bad_window.Statement.{statement}
+use Rattle.columns.proofs.window.bad_window.Tie as tie
 
 returns : tie.Need-returns
 returns c = rw (lt-ltb _ _ (c .before .before .if1 .taken), le-leb _ _ (c .if2 .taken))

@@ -1,4 +1,4 @@
--- `window_column` makes checks 5 and 6 in their order and then computes both edges. Assumes nothing.
+-- `column_of` makes checks 5 and 6 in their order and then computes both edges. Assumes nothing.
 use mathlib.Core.Path.{_≡_, sym, _∙_}
 use mathlib.Core.Bool.{false, not, _&&_, _||_}
 use Prim.Native.Nat.{_+_}
@@ -8,8 +8,8 @@ use Rattle.words.specs.Constants.{mostColumns}
 use Rattle.columns.specs.Drawing.{Edged}
 use Rattle.columns.proofs.Checking as laws
 use borrow.Author.Needs.{needs}
-use Rattle.columns.proofs.window_column.Statement.{statement}
-use Rattle.columns.proofs.window_column.Tie as tie
+use Rattle.columns.proofs.window.column_of.Statement.{statement}
+use Rattle.columns.proofs.window.column_of.Tie as tie
 
 -- Checks 5 and 6 have passed.
 within : (c : tie.Else1) →
@@ -66,8 +66,8 @@ returns-3 c =
     laws.window-hours (a .n) (a .a .0) (a .b .0) (a .w) (a .k) (within (c2 .before .before)) (among c2) _
     (rw (c .before .edge .ensures, c .edge2 .ensures))
 
-pub window-column-spec : {M : Type 1} → statement M
-window-column-spec =
+pub column-of-spec : {M : Type 1} → statement M
+column-of-spec =
     tie.close
     (tie.spec
     bad-window-requires

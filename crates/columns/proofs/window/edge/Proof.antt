@@ -4,8 +4,8 @@ use native.Mathlib.Nat.{mul-le-mul, div-le-self}
 use native.Mathlib.Omega.{arith}
 use Rattle.words.specs.Constants.{largestHours, mostColumns}
 use borrow.Author.Needs.{needs}
-use Rattle.columns.proofs.edge.Statement.{statement}
-use Rattle.columns.proofs.edge.Tie as tie
+use Rattle.columns.proofs.window.edge.Statement.{statement}
+use Rattle.columns.proofs.window.edge.Tie as tie
 
 -- What passes before the edge is no large number.
 passed : (c : tie.After-struct-known2) →
