@@ -3,7 +3,7 @@ use words::Asking;
 use words::Opening;
 use words::Refusal;
 ghost use mathlib.Core.Path.{_≡_};
-ghost use Rattle.om3.specs.Record.{openedRecord, askedView, askedRecord};
+ghost use Rattle.om3.specs.Record.{openedRecord, askedView};
 
 // Opens a record: what it says of its hours, and how many coefficients it has. Refusals in the order 8 (under 7
 // bytes), 9, 1, 10, 8 (fewer bytes than stated), 11.
@@ -50,14 +50,4 @@ pub fn ask(bytes: &[u8], places: usize, place: usize) -> Asking
         return Asking::Refused(Refusal::CutShort);
     }
     Asking::Coefficient(packing::coefficient_at(packed, place))
-}
-
-// Opens a record and asks it. Refusals of opening, then 13.
-pub fn ask_record(bytes: &[u8], place: usize) -> Asking
-    ensures { λ r. ⌜ r ≡ askedRecord (now (bytes .entry)) place ⌝ }
-{
-    match open_record(bytes) {
-        Opening::Record { hours: _, places } => ask(bytes, places, place),
-        Opening::Refused(why) => Asking::Refused(why),
-    }
 }

@@ -56,7 +56,7 @@ fn show_ask(bytes: &[u8], places: usize, place: usize) {
 
 // Opens a record, asks it, and writes the answer.
 fn show_ask_record(bytes: &[u8], place: usize) {
-    let asking = opening::ask_record(bytes, place);
+    let asking = view::ask_record(bytes, place);
     match asking {
         Asking::Coefficient(coefficient) => {
             lines::print_head(0, 0);

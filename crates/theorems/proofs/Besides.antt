@@ -3,19 +3,21 @@
 use mathlib.Core.{Path._≡_, Bool.false, List.List, List.map, List.flatten}
 use Prim.Native.Nat.{ℕ, _-_, _*_, _/_, _^_, _≤_, _<_}
 use lib.{IntN.ℤ, IntN.pos, ListN.length, ListN.getD, ListN.take}
+use denote.Ref.{RefT, now}
 use Rattle.words.specs.Constants.{dayHours}
 use Rattle.words.specs.declared.{Taking.Taking, Writing.Writing, Unpacking.Unpacking, Asking.Asking}
-use Rattle.words.specs.declared.{Finished.Finished, HourLine.HourLine}
+use Rattle.words.specs.declared.{Finished.Finished, HourLine.HourLine, Refusal.Refusal}
 use Rattle.om3.specs.{Series.Series, Series.levels, Series.P, Series.hoursFrom}
 use Rattle.om3.specs.{Table.Table, Table.tableOf, Table.HasTable, Table.lent}
-use Rattle.om3.specs.{Refusals.tableShort, Calls.filled, Checks.passes}
-use Rattle.om3.specs.Record.{Bytes, hoursIn, tableIn, openingChecks, askedRecord}
+use Rattle.om3.specs.{Refusals.tableShort, Calls.filled, Checks.passes, Checks.refuses}
+use Rattle.om3.specs.Record.{Bytes, hoursIn, coefficientIn, tableIn, openingChecks, askedView, askedRecord}
 use Rattle.om3.specs.{Columns.column, Columns.columnHours, Finished.finished, Joined.joined, Looked.lookThrough}
 use Rattle.om3.specs.{Drawn.finishedCount, Printed.gramsOf, Printed.printingChecks}
 use Rattle.om3.specs.Days.{day, changeOf, dayChange}
 use Rattle.om3.proofs as om3
 use Rattle.making.specs.Making.{Made}
 use Rattle.turning.specs.Turning.{TurnedBack}
+use Rattle.view.specs.{declared.View.View, View.viewOf}
 use Rattle.writing.specs.Writing.{RecordWritten}
 use Rattle.reading.specs.Reading.{RecordRead}
 use Rattle.theorems.proofs as theorems
@@ -50,6 +52,19 @@ module _ (r : List ℕ) (cs : List ℤ) (ks : List ℕ) (cs′ : List ℤ) (ks�
   -- A coefficient asked for is the one that was unpacked.
   asked-is-unpacked : (p : ℕ) → p < P n → askedRecord r p ≡ Asking.Coefficient (getD cs′ p (pos 0))
   asked-is-unpacked = theorems.Records.asked-read r cs ks cs′ ks′ n done
+
+-- Asking the view that `open` gives of bytes that opening takes answers what the record answers, which for each place
+-- of the view is the coefficient there; of other bytes it answers 13.
+module _ (bytes : RefT (List ℕ)) (v : View) (opens : v ≡ viewOf bytes) (p : ℕ) (u : Asking)
+    (asks : u ≡ askedView (now (v .bytes)) (v .places) p) where
+  view-answers : openingChecks (now bytes) ≡ passes → u ≡ askedRecord (now bytes) p
+  view-answers = theorems.Views.view-answers bytes v opens p u asks
+
+  view-coefficient : p < v .places → u ≡ Asking.Coefficient (coefficientIn (now bytes) p)
+  view-coefficient = theorems.Views.view-coefficient bytes v opens p u asks
+
+  view-refuses : (why : Refusal) → openingChecks (now bytes) ≡ refuses why → u ≡ Asking.Refused Refusal.BadPlace
+  view-refuses = theorems.Views.view-refuses bytes v opens p u asks
 
 -- From a table that a series has, the change of a day is that of a look through its hours.
 day-change : (n : ℕ) (s : List ℤ) (t : Table) → Series n s → HasTable n s t → (d : ℕ) → dayHours * d < n

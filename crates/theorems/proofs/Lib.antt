@@ -3,6 +3,7 @@ pub mod Once
 pub mod Unwritten
 pub mod Calls
 pub mod Records
+pub mod Views
 pub mod Printer
 pub mod Figures
 pub mod Besides

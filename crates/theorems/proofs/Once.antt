@@ -8,6 +8,7 @@ use mathlib.Core.List.{List}
 use Prim.Native.Nat.{ℕ}
 use lib.IntN.{ℤ}
 use lib.ListN.{length}
+use denote.Ref.{RefT, now}
 use Rattle.words.specs.declared.Stretch.{Stretch}
 use Rattle.words.specs.declared.Taking.{Taking}
 use Rattle.words.specs.declared.Writing.{Writing}
@@ -31,6 +32,8 @@ use Rattle.om3.specs.Days.{dayChange}
 use Rattle.making.specs.Making.{Made}
 use Rattle.turning.specs.declared.Verdict.{Verdict}
 use Rattle.turning.specs.Turning.{checkOf, TurnedBack}
+use Rattle.view.specs.declared.View.{View}
+use Rattle.view.specs.View.{viewPlaces, viewOf}
 use Rattle.writing.specs.Writing.{RecordWritten}
 use Rattle.reading.specs.Reading.{RecordRead}
 use Rattle.parsing.specs.declared.Text.{Text}
@@ -89,7 +92,8 @@ pub record EachCall : Type 0 where
   -- The examination of a table says what a check says; no two verdicts are the same check. What it and the columns
   -- call below a node speaks of the nodes of a table alone and is no user's call.
   pub examine : (c : Check) → One (λ (r : Verdict). checkOf r ≡ c)
-  -- Records: writing and reading, with the lent buffers; opening; asking a view and asking a record.
+  -- Records: writing and reading, with the lent buffers; opening; asking bytes of P coefficients and asking a record;
+  -- opening a view, asking it, and both at once.
   pub write-record : (n : ℕ) (cs : List ℤ) (ks out : List ℕ)
       → One (λ (o : List ℕ × Writing). RecordWritten n cs ks out (o .0) (o .1))
   pub read-record : (r : List ℕ) (cs : List ℤ) (ks : List ℕ)
@@ -97,6 +101,9 @@ pub record EachCall : Type 0 where
   pub open-record : (r : List ℕ) → One (λ (u : Opening). u ≡ openedRecord r)
   pub ask : (r : List ℕ) (places p : ℕ) → One (λ (u : Asking). u ≡ askedView r places p)
   pub ask-record : (r : List ℕ) (p : ℕ) → One (λ (u : Asking). u ≡ askedRecord r p)
+  pub open-view : (bytes : RefT (List ℕ)) → One (λ (v : View). v ≡ viewOf bytes)
+  pub ask-view : (v : View) (p : ℕ) → One (λ (u : Asking). u ≡ askedView (now (v .bytes)) (v .places) p)
+  pub ask-once : (r : List ℕ) (p : ℕ) → One (λ (u : Asking). u ≡ askedView r (viewPlaces r) p)
   -- Columns: the edges, the answer stopped at a depth, the finished answer; joining; the day change.
   pub column-edges : (n a b w k : ℕ) → One (λ (r : Edges). r ≡ edges n a b w k)
   pub stopped-column : (n : ℕ) (t : Table) (a b w k d : ℕ) → One (λ (r : Stopped). r ≡ stopped n t a b w k d)
@@ -180,6 +187,9 @@ each-call =
       open-record = λ r. equal-once (openedRecord r);
       ask = λ r places p. equal-once (askedView r places p);
       ask-record = λ r p. equal-once (askedRecord r p);
+      open-view = λ bytes. equal-once (viewOf bytes);
+      ask-view = λ v p. equal-once (askedView (now (v .bytes)) (v .places) p);
+      ask-once = λ r p. equal-once (askedView r (viewPlaces r) p);
       column-edges = λ n a b w k. equal-once (edges n a b w k);
       stopped-column = λ n t a b w k d. equal-once (stopped n t a b w k d);
       finished-column = λ n t a b w k. equal-once (finished n t a b w k);

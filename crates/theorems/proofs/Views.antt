@@ -1,0 +1,37 @@
+-- What the contracts of a view's calls say together: `open` gave the view v of these bytes, and `ask`, asked for place
+-- p of it, answered u. Assumes nothing.
+use mathlib.Core.Path.{_≡_, sym, ap, _∙_}
+use mathlib.Core.List.{List}
+use Prim.Native.Nat.{ℕ, _<_}
+use denote.Ref.{RefT, now}
+use Rattle.words.specs.declared.Refusal.{Refusal}
+use Rattle.words.specs.declared.Refusal.the-variants.{BadPlace}
+use Rattle.words.specs.declared.Asking.{Asking}
+use Rattle.om3.specs.Series.{P}
+use Rattle.om3.specs.Checks.{passes, refuses}
+use Rattle.om3.specs.Record.{hoursIn, coefficientIn, openingChecks, openedRecord, askedView, askedRecord}
+use Rattle.view.specs.declared.View.{View}
+use Rattle.view.specs.View.{viewPlaces, viewOf}
+use Rattle.view.proofs.Viewed as viewed
+
+module _ (bytes : RefT (List ℕ)) (v : View) (opens : v ≡ viewOf bytes) (p : ℕ) (u : Asking)
+    (asks : u ≡ askedView (now (v .bytes)) (v .places) p) where
+  abbrev r : List ℕ
+  r = now bytes
+
+  answer : u ≡ askedView r (viewPlaces r) p
+  answer = asks ∙ ap (λ (x : View). askedView (now (x .bytes)) (x .places) p) opens
+
+  -- Of bytes that opening takes the answer is what the record answers when it is opened and asked ..
+  pub view-answers : openingChecks r ≡ passes → u ≡ askedRecord r p
+  unfolding openedRecord
+  view-answers taken = answer ∙ viewed.opened-view r p (hoursIn r) (P (hoursIn r)) (rw taken)
+
+  -- .. which is the coefficient there for each place that the view has, never 8 ..
+  pub view-coefficient : p < v .places → u ≡ Asking.Coefficient (coefficientIn r p)
+  view-coefficient below = answer ∙ viewed.view-coefficient r p (rw opens at below)
+
+  -- .. and of bytes that it refuses 13.
+  pub view-refuses : (why : Refusal) → openingChecks r ≡ refuses why → u ≡ Asking.Refused BadPlace
+  unfolding openedRecord
+  view-refuses why refused = answer ∙ sym (viewed.refused-view r p why (rw refused))

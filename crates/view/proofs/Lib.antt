@@ -1,0 +1,2 @@
+-- What a view holds, and what it answers.
+pub mod Viewed

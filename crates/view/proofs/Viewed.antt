@@ -1,0 +1,59 @@
+-- What the view of a record holds, and what it answers. Assumes nothing.
+use mathlib.Core.Path.{_≡_, refl}
+use mathlib.Core.List.{List}
+use Prim.Native.Nat.{ℕ, _+_, _*_, _≤_, _<_}
+use native.Mathlib.Omega.{arith}
+use lib.ListN.{length}
+use borrow.Author.Tests.{lt-leb, le-ltb}
+use Rattle.words.specs.declared.Refusal.{Refusal}
+use Rattle.words.specs.declared.Refusal.the-variants.{BadPlace}
+use Rattle.words.specs.declared.Opening.{Opening}
+use Rattle.words.specs.declared.Asking.{Asking}
+use Rattle.om3.specs.Checks.{Check, passes, refuses, inOrder}
+use Rattle.om3.specs.Record.{headerSize, coefficientIn, openingChecks, openedBy, openedRecord}
+use Rattle.om3.specs.Record.{askedView, askedRecord}
+use Rattle.om3.proofs.RecordsOpened.{opens-formed}
+use Rattle.opening.proofs.Asked.{opened-asked, past-places}
+use Rattle.view.specs.View.{placesBy, viewPlaces}
+
+module _ (r : List ℕ) where
+  -- A record that opening takes has a view of as many places as opening says, other bytes have one of none.
+  pub opened-places : (n places : ℕ) → Opening.Record n places ≡ openedRecord r → places ≡ viewPlaces r
+  unfolding openedRecord viewPlaces
+  opened-places n places e = by (openingChecks r) e
+    where
+      by : (c : Check) → Opening.Record n places ≡ openedBy c r → places ≡ placesBy c r
+      by passes h = cc
+      by (refuses why) h = cc
+
+  pub refused-places : (why : Refusal) → Opening.Refused why ≡ openedRecord r → 0 ≡ viewPlaces r
+  unfolding openedRecord viewPlaces
+  refused-places why e = by (openingChecks r) e
+    where
+      by : (c : Check) → Opening.Refused why ≡ openedBy c r → 0 ≡ placesBy c r
+      by passes h = cc
+      by (refuses other) h = refl
+
+  module _ (p : ℕ) where
+    -- The view of an opened record answers what the record answers, that of bytes that opening refuses 13.
+    pub opened-view : (n places : ℕ) → Opening.Record n places ≡ openedRecord r
+        → askedView r (viewPlaces r) p ≡ askedRecord r p
+    opened-view n places e = opened-asked r p n (viewPlaces r) (rw (← opened-places n places e) e)
+
+    pub refused-view : (why : Refusal) → Opening.Refused why ≡ openedRecord r
+        → Asking.Refused BadPlace ≡ askedView r (viewPlaces r) p
+    refused-view why e = past-places r (viewPlaces r) p (omega (arith, refused-places why e))
+
+    -- The bytes reach each place of their view ..
+    reaches : p < viewPlaces r → headerSize + 3 * p + 3 ≤ length r
+    unfolding viewPlaces
+    reaches h = by (openingChecks r) refl h
+      where
+        by : (c : Check) → openingChecks r ≡ c → p < placesBy c r → headerSize + 3 * p + 3 ≤ length r
+        by passes e below = omega (arith, opens-formed r e .sized)
+        by (refuses why) e below = omega arith
+
+    -- .. so it answers each with the coefficient there, and never 8.
+    pub view-coefficient : p < viewPlaces r → askedView r (viewPlaces r) p ≡ Asking.Coefficient (coefficientIn r p)
+    unfolding askedView inOrder
+    view-coefficient h = rw (lt-leb (viewPlaces r) p h, le-ltb (length r) (headerSize + 3 * p + 3) (reaches h))
