@@ -15,10 +15,10 @@ int main(void) {
         readings[hour] = hour >= 30 && hour < 36 ? SAGIVELUME_GAP : 32000 + 30 * hour - away;
     }
 
-    struct sagivelume_told made = sagivelume_make(N, readings, N, coefficients, P, codes, P / 2);
+    if (sagivelume_make(N, readings, N, coefficients, P, codes, P / 2).number) return 1;
     struct sagivelume_told_bytes stored = sagivelume_write_record(N, coefficients, P, codes, P / 2, record, BYTES);
     FILE *file = tmpfile();
-    if (made.number || stored.number || !file || fwrite(record, 1, stored.bytes, file) != stored.bytes) return 1;
+    if (stored.number || !file || fwrite(record, 1, stored.bytes, file) != stored.bytes) return 1;
     rewind(file);
     size_t length = fread(record, 1, BYTES, file);
 
@@ -37,6 +37,7 @@ int main(void) {
                     column, drawn.first, drawn.last, drawn.low, drawn.high);
     }
     struct sagivelume_told_change change = sagivelume_day_change(reloaded.hours, coefficients, P, codes, P / 2, 1);
+    if (change.number || !change.found) return 1;
     printf("change %" PRId32 "\n", change.grams);
-    return change.number != 0;
+    return 0;
 }

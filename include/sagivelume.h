@@ -6,30 +6,37 @@
  * Its record has 7 + 3P + P/2 bytes. The greatest P is 16,384, so that buffers of 16,384 coefficients, 8,192 codes and
  * 57,351 bytes serve every n.
  *
- * Every call ends with an answer, whatever the numbers and whatever the buffers hold. A buffer passes as a pointer and
- * then its length in elements; a longer one than needed is taken, and what lies beyond is neither read nor written. The
- * caller sees to what C cannot check: that the pointer is that of so many live elements, aligned and not null even if
- * the length is 0, and that a buffer to be written overlaps no other of the call. No call keeps a pointer, allocates,
- * or touches anything else, so that calls on different buffers may run at once.
+ * In a table, coefficients 0 and 1 are the lowest and the highest reading, coefficients 2i and 2i + 1 the details of
+ * node i, and code k is that of hours 2k and 2k + 1. RECORD.md says what details and codes mean.
  *
- * An answer begins with a refusal's number and its place, both 0 where the call is taken. A refused call writes
- * nothing, and the other fields of its answer are 0. Where a call has several causes, the first in the order given with
- * it is told.
+ * Every call ends with an answer, whatever the numbers and whatever the buffers hold. A buffer passes as a pointer and
+ * then its length in elements; a longer one than needed is taken, and what lies beyond is neither read nor written.
+ * Only the bytes of a record to be read or opened must be the record and no more. The caller sees to what C cannot
+ * check: that the pointer is that of so many live elements, aligned and not null even if the length is 0, and that a
+ * buffer to be written overlaps no other of the call. No call keeps a pointer, allocates, or touches anything else, so
+ * that calls on different buffers may run at once.
+ *
+ * Of every call but level and join, which refuse nothing, the answer begins with a refusal's number and its place, both
+ * 0 where the call is taken. A refused call writes nothing, and the other fields of its answer are 0. Where a call has
+ * several causes, the first in the order given with it is told.
  *
  *    number  cause                                                       place
  *         1  n is 0 or over 16,384                                       0
  *         2  an hour holds neither a reading nor a gap                   the first such hour
  *         3  a buffer is shorter than needed                             0
- *         4  the table is of no series of n hours                        the number of the node found unsound first,
- *                                                                        0 for the root values
+ *         4  a node that is examined fits no series of n hours           the number of the first such node,
+ *                                                                        0 for coefficients 0 and 1
  *         5  not a < b <= n, or the day begins at hour n or later        0
  *         6  w is 0 or over 4,096, or the column is not below w          0
  *         7  the depth is over l, where P is 2 to the power l            0
- *         8  the bytes end before the record does                        0
+ *         8  the bytes end before the record, or the coefficient, does   0
  *         9  the record's version is not 1                               0
  *        10  the record's length field is not that of its n              0
  *        11  bytes follow the record                                     0
  *        13  the place asked for is not below the number of places       0
+ *
+ * Turning back, writing and reading examine every node, so that what they take is the table of a series. Columns and
+ * the day change examine the nodes on their way alone: of a table that no series has they may answer all the same.
  */
 #ifndef SAGIVELUME_H
 #define SAGIVELUME_H
@@ -156,9 +163,9 @@ struct sagivelume_told sagivelume_turn_back(
     const uint8_t *codes, size_t codes_length,
     int32_t *hours, size_t hours_length);
 
-/* Tells where the details of level j stand: 2 to the power j nodes, low detail and high detail of each in turn. Needs P
- * coefficients, of which none is read. No refusal: length 0 where there is no such level, and for the causes of 1 and
- * 3. */
+/* Tells where the details of level j stand, j from 0 to l - 2: those of nodes 2^j to 2^(j+1) - 1, low detail and high
+ * detail of each in turn. Needs P coefficients, of which none is read. No refusal: start and length are 0 for any other
+ * j, and for the causes of 1 and 3. */
 struct sagivelume_places sagivelume_level(
     size_t n,
     size_t j,
@@ -184,13 +191,16 @@ struct sagivelume_told_hours sagivelume_read_record(
 struct sagivelume_told_record sagivelume_open_record(
     const uint8_t *bytes, size_t bytes_length);
 
-/* Asks an opened record, which has so many places, for the coefficient at one of them. Refusals 13, 8. */
+/* Asks a record for the coefficient at a place. `places` is the P that opening these bytes answered; it is taken as it
+ * is, and nothing else of the record is looked at. Refusals 13, 8. */
 struct sagivelume_told_coefficient sagivelume_ask(
     const uint8_t *bytes, size_t bytes_length,
     size_t places,
     size_t place);
 
-/* Tells the hours of one column of the window [a, b) that is drawn in w columns. Refusals 1, 5, 6. */
+/* Tells the hours of one column of the window [a, b) that is drawn in w columns. Where w is over b - a, some columns
+ * have no hour: `from` is `upto`, ranges are absent, `found` is 0, the count is 0, and no node is examined. Refusals 1,
+ * 5, 6. */
 struct sagivelume_told_column sagivelume_edges(
     size_t n,
     size_t a,
@@ -210,7 +220,8 @@ struct sagivelume_told_ranges sagivelume_stopped(
     size_t column,
     size_t depth);
 
-/* Answers that column as a look through its hours would. Reads P coefficients and P/2 codes. Refusals 1, 3, 5, 6, 4. */
+/* Answers that column, from the table of a series as a look through its hours would. Reads P coefficients and P/2
+ * codes. Refusals 1, 3, 5, 6, 4. */
 struct sagivelume_told_finished sagivelume_finished(
     size_t n,
     const int32_t *coefficients, size_t coefficients_length,

@@ -5,7 +5,7 @@ use std::ops::Range;
 use crate::linked;
 use crate::refusal::Refusal;
 
-/// Column k of the window [a, b) drawn in w columns; any numbers at all.
+/// Column k of the window [a, b) drawn in w columns. Nothing is checked until a call takes it.
 ///
 /// With L = b − a it has the hours from a + ceil(k·L / w) up to but not including a + ceil((k+1)·L / w).
 ///

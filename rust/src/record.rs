@@ -8,8 +8,8 @@ use crate::refusal::Refusal;
 
 /// Writes the record of a table and gives the number of its bytes, 7 + 3P + P/2.
 ///
-/// Refusals in the order 1 (n is 0 or over 16,384), 3 (a buffer is shorter than needed), 4 (the node at its place is
-/// the first unsound one; 0 stands for the root values).
+/// Refusals in the order 1 (n is 0 or over 16,384), 3 (a buffer is shorter than needed: P coefficients, P/2 codes, the
+/// record's bytes), 4 (the node at its place is the first unsound one; 0 stands for the root values).
 ///
 /// ```
 /// use sagivelume::Refusal;
@@ -35,8 +35,8 @@ pub fn write_record(
 /// none may follow it.
 ///
 /// Refusals in the order 8 (under 7 bytes), 9 (the version is not 1), 1 (n is 0 or over 16,384), 10 (the length field
-/// is not that of n), 8 (fewer bytes than stated), 11 (bytes after the record), 3 (a buffer is shorter than needed), 4
-/// (the node at its place is the first unsound one; 0 stands for the root values).
+/// is not that of n), 8 (fewer bytes than stated), 11 (bytes after the record), 3 (a buffer is shorter than needed: P
+/// coefficients, P/2 codes), 4 (the node at its place is the first unsound one; 0 stands for the root values).
 ///
 /// ```
 /// use sagivelume::Refusal;

@@ -3,7 +3,22 @@
 use std::error::Error;
 use std::fmt;
 
-/// A refusal: its number in document 01's list, and its place.
+/// A refusal: its number and its place. The place is 0 but for two of them.
+///
+/// | number | cause | place |
+/// |---|---|---|
+/// | 1 | n is 0 or over 16,384 | |
+/// | 2 | an hour holds neither a reading nor a gap | the first such hour |
+/// | 3 | a buffer is shorter than needed | |
+/// | 4 | a node that is examined fits no series of n hours | its number, 0 for the root values |
+/// | 5 | not a < b ≤ n, or the day begins at hour n or later | |
+/// | 6 | w is 0 or over 4,096, or the column is not below w | |
+/// | 7 | the depth is over l, where P is 2 to the power l | |
+/// | 8 | the bytes end before the record, or the coefficient, does | |
+/// | 9 | the record's version is not 1 | |
+/// | 10 | the record's length field is not that of its n | |
+/// | 11 | bytes follow the record | |
+/// | 13 | the place asked for is not below the number of places | |
 ///
 /// ```
 /// use sagivelume::Refusal;
@@ -13,9 +28,9 @@ use std::fmt;
 /// ```
 #[derive(Clone, Copy, Debug, PartialEq, Eq)]
 pub struct Refusal {
-    /// The number, 1 to 13.
+    /// The number.
     pub number: u8,
-    /// The hour of 2, the node number of 4, the line of 12, and 0 for all others.
+    /// The hour of 2, the node number of 4, and 0 for all others.
     pub place: usize,
 }
 

@@ -12,8 +12,8 @@ pub const GAP: i32 = 2_000_003;
 
 /// Makes the table of the first n readings: writes P coefficients and P/2 codes.
 ///
-/// Refusals in the order 1 (n is 0 or over 16,384), 3 (a buffer is shorter than needed), 2 (the hour at its place
-/// holds neither a reading nor a gap).
+/// Refusals in the order 1 (n is 0 or over 16,384), 3 (a buffer is shorter than needed: n readings, P coefficients, P/2
+/// codes), 2 (the hour at its place holds neither a reading nor a gap).
 ///
 /// ```
 /// use sagivelume::{Refusal, GAP};
@@ -34,8 +34,8 @@ pub fn make(n: usize, readings: &[i32], coefficients: &mut [i32], codes: &mut [u
 
 /// Turns a table back: writes the n hours of its series.
 ///
-/// Refusals in the order 1 (n is 0 or over 16,384), 3 (a buffer is shorter than needed), 4 (the node at its place is
-/// the first unsound one; 0 stands for the root values).
+/// Refusals in the order 1 (n is 0 or over 16,384), 3 (a buffer is shorter than needed: P coefficients, P/2 codes, n
+/// hours), 4 (the node at its place is the first unsound one; 0 stands for the root values).
 ///
 /// ```
 /// use sagivelume::{Refusal, GAP};

@@ -281,7 +281,7 @@ pub fn day_change(n: usize, coefficients: &[i32], codes: &[u8], d: usize) -> Day
     if let Taking::Refused(why) = check_lent(n, coefficients, codes) {
         return DayChange::Refused(why);
     }
-    // So late a day can't be multiplied, and has no hour.
+    // A day from 16,384 on has no hour; of any before it, 24·d can be counted.
     if words::LARGEST_HOURS <= d {
         return DayChange::Refused(Refusal::BadWindow);
     }

@@ -1,5 +1,6 @@
--- What the calls of columns tell at the boundary: their answers as flat structs, 0 in every value of a refusal. Cited by
--- the contracts of this crate and of the boundary. Assumes nothing.
+-- What the calls of columns tell at the boundary: their answers as flat structs, with the number and the place that
+-- document 01 gives to each case (`saidOf..`) [forms 15], and 0 in every value of a refusal. Cited by the contracts of
+-- this crate and of the boundary. Assumes nothing.
 --
 --   edgesTold e      the first hour and the end of a column
 --   stoppedTold s    the outer and the inner range, each as its low and its high, and the count
@@ -12,7 +13,7 @@ use mathlib.Core.Bool.{cond}
 use Prim.Native.Nat.{ℕ}
 use lib.Dec.{eqb}
 use lib.IntN.{pos}
-use Rattle.words.specs.Said.{numberOf, placeOf, lowOf, highOf}
+use Rattle.words.specs.Said.{Said, saidOfEdges, saidOfStopped, saidOfFinished, saidOfDayChange, lowOf, highOf}
 use Rattle.words.specs.declared.Answer.{Answer}
 use Rattle.words.specs.declared.DayChange.{DayChange}
 use Rattle.words.specs.declared.Edges.{Edges}
@@ -25,31 +26,38 @@ use Rattle.told.specs.declared.columns.ToldAnswer.{ToldAnswer}
 use Rattle.told.specs.declared.columns.ToldFinished.{ToldFinished}
 use Rattle.told.specs.declared.columns.ToldChange.{ToldChange}
 
--- Number 0 at place 0 is a column, else the refusal with its place.
+-- A column's first hour and its end.
+abbrev edgesSaid : Said → Edges → ToldColumn
+edgesSaid said (Edges.Hours x) =
+    record { number = said .number; place = said .place; from = x .from .0; upto = x .upto .0 }
+edgesSaid said (Edges.Refused why) = record { number = said .number; place = said .place; from = 0; upto = 0 }
+
 abbrev pub edgesTold : Edges → ToldColumn
-edgesTold (Edges.Hours x) = record { number = 0; place = 0; from = x .from .0; upto = x .upto .0 }
-edgesTold (Edges.Refused why) = record { number = numberOf why; place = placeOf why; from = 0; upto = 0 }
+edgesTold e = edgesSaid (saidOfEdges e) e
 
 -- An absent range has the gap mark as its low and as its high.
-abbrev pub stoppedTold : Stopped → ToldRanges
-stoppedTold (Stopped.Ranges outer inner count) = record {
-  number = 0;
-  place = 0;
+abbrev stoppedSaid : Said → Stopped → ToldRanges
+stoppedSaid said (Stopped.Ranges outer inner count) = record {
+  number = said .number;
+  place = said .place;
   «outer_low» = lowOf outer;
   «outer_high» = highOf outer;
   «inner_low» = lowOf inner;
   «inner_high» = highOf inner;
   count = count;
 }
-stoppedTold (Stopped.Refused why) = record {
-  number = numberOf why;
-  place = placeOf why;
+stoppedSaid said (Stopped.Refused why) = record {
+  number = said .number;
+  place = said .place;
   «outer_low» = pos 0;
   «outer_high» = pos 0;
   «inner_low» = pos 0;
   «inner_high» = pos 0;
   count = 0;
 }
+
+abbrev pub stoppedTold : Stopped → ToldRanges
+stoppedTold s = stoppedSaid (saidOfStopped s) s
 
 -- 1 in `found` if there is a reading; without one all else is 0.
 abbrev pub answerTold : Answer → ToldAnswer
@@ -88,15 +96,23 @@ withCount number place a count = record {
 }
 
 -- A refusal is told with the answer of no reading and with count 0.
+abbrev finishedSaid : Said → Finished → ToldFinished
+finishedSaid said (Finished.Answered answer count) = withCount (said .number) (said .place) (answerTold answer) count
+finishedSaid said (Finished.Refused why) = withCount (said .number) (said .place) (answerTold Answer.NoReading) 0
+
 abbrev pub finishedTold : Finished → ToldFinished
-finishedTold (Finished.Answered answer count) = withCount 0 0 (answerTold answer) count
-finishedTold (Finished.Refused why) = withCount (numberOf why) (placeOf why) (answerTold Answer.NoReading) 0
+finishedTold f = finishedSaid (saidOfFinished f) f
 
 -- 1 in `found` if the day has a reading; without one, or refused, the change is told as 0.
+abbrev changeSaid : Said → DayChange → ToldChange
+changeSaid said DayChange.NoReading = record { number = said .number; place = said .place; found = 0; grams = pos 0 }
+changeSaid said (DayChange.Grams grams) =
+    record { number = said .number; place = said .place; found = 1; grams = grams }
+changeSaid said (DayChange.Refused why) =
+    record { number = said .number; place = said .place; found = 0; grams = pos 0 }
+
 abbrev pub changeTold : DayChange → ToldChange
-changeTold DayChange.NoReading = record { number = 0; place = 0; found = 0; grams = pos 0 }
-changeTold (DayChange.Grams grams) = record { number = 0; place = 0; found = 1; grams = grams }
-changeTold (DayChange.Refused why) = record { number = numberOf why; place = placeOf why; found = 0; grams = pos 0 }
+changeTold c = changeSaid (saidOfDayChange c) c
 
 -- 0 in `found` is no reading, anything else a reading.
 abbrev pub answerIn : ToldAnswer → Answer
