@@ -15,7 +15,7 @@ use Rattle.om3.specs.Record.{hoursIn, coefficientIn, tableIn, openingChe
 use Rattle.om3.proofs.Lists.{map-up-length}
 use Rattle.om3.proofs.Bytes.{bytes-take, bytes-drop, bytes-forth}
 use Rattle.om3.proofs.ThreeBytes.{three-forth}
-use Rattle.om3.proofs.RecordsOpened.{WellFormed, opens-formed}
+use Rattle.om3.proofs.RecordsOpened.{Openable, opens-formed}
 
 -- Two parts of a list that meet are one part.
 parts-meet : (r : List ℕ) (p w v : ℕ) → bytesAt r p w ++ bytesAt r (p + w) v ≡ bytesAt r p (w + v)
@@ -48,7 +48,7 @@ module _ (r : List ℕ) (bytes : Bytes r) where
       rw (first, threes-again (f + 1) c (omega arith), e, ← d) (parts-meet r p 3 (3 * c))
 
   -- The five parts, from the places where they start.
-  module _ (w : WellFormed r) where
+  module _ (w : Openable r) where
     abbrev n : ℕ
     n = hoursIn r
 

@@ -24,14 +24,14 @@ use Rattle.om3.proofs.Taken.{good-hours}
 use Rattle.om3.proofs.Records.{record-length-in, record-version-in, record-hours-in, record-size}
 
 -- The fields fit one another and the length.
-pub record WellFormed (r : List ℕ) : Type 0 where
+pub record Openable (r : List ℕ) : Type 0 where
   pub versioned : versionIn r ≡ version
   pub timed : badHours (hoursIn r) ≡ false
   pub stated : lengthIn r ≡ recordLength (hoursIn r)
   pub sized : length r ≡ recordSize (hoursIn r)
 
 module _ (r : List ℕ) where
-  formed-opens : WellFormed r → openingChecks r ≡ passes
+  formed-opens : Openable r → openingChecks r ≡ passes
   unfolding inOrder
   formed-opens w =
       let long : headerSize ≤ length r = omega (arith, w .sized) in
@@ -46,7 +46,7 @@ module _ (r : List ℕ) where
         le-ltb _ _ over,
       )
 
-  pub opens-formed : openingChecks r ≡ passes → WellFormed r
+  pub opens-formed : openingChecks r ≡ passes → Openable r
   opens-formed h =
       let a = first-absent (ltb (length r) headerSize) CutShort _ h in
       let b = first-absent (not (eqb (versionIn r) version)) BadVersion _ (a .1) in
@@ -63,7 +63,7 @@ module _ (r : List ℕ) where
       }
 
   -- [refusals 8, 9, 10, 11, 19]
-  pub opening-exactly : (openingChecks r ≡ passes) ↔ WellFormed r
+  pub opening-exactly : (openingChecks r ≡ passes) ↔ Openable r
   opening-exactly = (opens-formed, formed-opens)
 
 -- A written record is taken.

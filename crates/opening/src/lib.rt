@@ -46,7 +46,7 @@ pub fn ask(bytes: &[u8], places: usize, place: usize) -> Asking
         return Asking::Refused(Refusal::CutShort);
     }
     let packed = &bytes[words::HEADER_SIZE..];
-    if packed.len() / 3 <= place {
+    if packed.len() / words::COEFFICIENT_SIZE <= place {
         return Asking::Refused(Refusal::CutShort);
     }
     Asking::Coefficient(packing::coefficient_at(packed, place))

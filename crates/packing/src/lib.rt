@@ -75,8 +75,8 @@ pub fn coefficient_at(packed: &[u8], p: usize) -> i32
     requires { ⌜ p < length (now packed) / 3 ⌝ }
     ensures { λ r. ⌜ r ≡ coefficientFrom (now (packed .entry)) p ⌝ }
 {
-    let at = 3 * p;
-    let end = at + 3;
+    let at = words::COEFFICIENT_SIZE * p;
+    let end = at + words::COEFFICIENT_SIZE;
     signed_of(number_from(&packed[at..end]))
 }
 
@@ -88,8 +88,8 @@ pub fn pack(coefficients: &[i32], out: &mut [u8])
 {
     let mut p = 0;
     while p < coefficients.len() {
-        let at = 3 * p;
-        let end = at + 3;
+        let at = words::COEFFICIENT_SIZE * p;
+        let end = at + words::COEFFICIENT_SIZE;
         put_number(bits_of(coefficients[p]), &mut out[at..end]);
         p += 1;
     }

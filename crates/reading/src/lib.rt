@@ -151,7 +151,7 @@ fn read_parts(
     ensures { λ r. ⌜ PartsRead n (now (packed .entry)) (now (codes_in .entry))
         (now (coefficients .entry)) (now (codes .entry)) (now (coefficients .exit)) (now (codes .exit)) r ⌝ }
 {
-    let places = packed.len() / 3;
+    let places = packed.len() / words::COEFFICIENT_SIZE;
     if coefficients.len() < places {
         return Unpacking::Refused(Refusal::ShortBuffer);
     }
@@ -174,7 +174,7 @@ pub fn read_record(bytes: &[u8], coefficients: &mut [i32], codes: &mut [u8]) -> 
 {
     match opening::open_record(bytes) {
         Opening::Record { hours, places } => {
-            let at = words::HEADER_SIZE + 3 * places;
+            let at = words::HEADER_SIZE + words::COEFFICIENT_SIZE * places;
             read_parts(
                 hours,
                 &bytes[words::HEADER_SIZE..at],

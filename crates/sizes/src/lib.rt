@@ -43,5 +43,5 @@ pub fn record_size(p: usize) -> usize
     requires { ⌜ p ≤ largestHours ⌝ }
     ensures { λ r. ⌜ r ≡ 4 + lengthFor p ⌝ }
 {
-    words::HEADER_SIZE + 3 * p + p / 2
+    words::HEADER_SIZE + words::COEFFICIENT_SIZE * p + p / 2
 }

@@ -22,7 +22,7 @@ use Rattle.om3.proofs.Examined as examined
 use Rattle.om3.proofs.Demand2 as demand2
 use Rattle.om3.proofs.ThreeBytes as three
 use Rattle.om3.proofs.Records as records
-use Rattle.om3.proofs.RecordsOpened.{WellFormed}
+use Rattle.om3.proofs.RecordsOpened.{Openable}
 use Rattle.om3.proofs.RecordsOpened as opened
 use Rattle.om3.proofs.RecordsForth as forth
 use Rattle.om3.proofs.RecordsTaken as taken
@@ -90,7 +90,7 @@ record-range = records.record-range
 record-forth : (r : List ℕ) → Bytes r → openingChecks r ≡ passes → recordOf (hoursIn r) (tableIn r) ≡ r
 record-forth = forth.record-forth
 
-opening-exactly : (r : List ℕ) → (openingChecks r ≡ passes) ↔ WellFormed r
+opening-exactly : (r : List ℕ) → (openingChecks r ≡ passes) ↔ Openable r
 opening-exactly = opened.opening-exactly
 
 -- Document 01's numbers 1 to 10, whatever codes 9 and 10 leave open; its numbers 11 and 12; documents 003 and 004; and

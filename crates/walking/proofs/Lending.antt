@@ -1,4 +1,5 @@
--- What is lent for a node is lent for its halves, and for the inner nodes of two walks together. Assumes nothing.
+-- What is lent for a node is lent for a step down and for its halves, and for the inner nodes of two walks together.
+-- Assumes nothing.
 use mathlib.Core.Bool.{Bool, true, false, cond}
 use mathlib.Core.List.{List}
 use Prim.Native.Nat.{ℕ, _+_, _/_, _≤_}
@@ -6,17 +7,28 @@ use native.Mathlib.Nat.{mul-le-mul-left}
 use native.Mathlib.Omega.{arith}
 use lib.IntN.{ℤ}
 use lib.ListN.{length}
+use borrow.Author.Tests.{ltb-false}
 use Rattle.words.specs.declared.Range.{Range}
 use Rattle.om3.specs.Ranges.{Readings}
-use Rattle.om3.proofs.Rooms.{left-room, right-room}
-use Rattle.walking.specs.Nodes.{Below, leftReached, rightReached}
+use Rattle.om3.proofs.Rooms.{left-room, right-room, places-room}
+use Rattle.walking.specs.Nodes.{Below, pairOf, leftReached, rightReached}
 use Rattle.walking.specs.Seen.{bothInner}
-use Rattle.walking.specs.Walking.{InnerBelow}
+use Rattle.walking.specs.Walking.{Steps, InnerBelow}
 use Rattle.walking.specs.declared.Reached.{Reached}
 use Rattle.walking.specs.declared.Inner.{Inner}
 
--- What is lent for a node of two hours or more is lent for its halves.
+-- What is lent for a node of two hours or more is lent for a step down from it and for its halves.
 module _ (cs : List ℤ) (ks : List ℕ) (at : Reached) (below : Below cs ks at) (two : 2 ≤ at .hours) where
+  pub steps : Steps cs ks (at .id) (at .from) (pairOf (at .hours)) (at .range)
+  steps =
+      record {
+        readings = below .readings;
+        code = λ pair. omega (arith, below .codes);
+        details = λ wide.
+            let w : 2 ≤ at .hours / 2 = omega (arith, ltb-false (at .hours) 4 wide) in
+            places-room _ _ _ w (below .details);
+      }
+
   pub left-below : (r : Range) → Readings r → Below cs ks (leftReached at r)
   left-below r p =
       record {

@@ -1,18 +1,22 @@
 -- What a step down and the walk over opened nodes promise. Cited by the contracts of this crate and of the columns.
 -- Assumes nothing.
 --
---   halvesAt l n t v         the halves of node v if it is sound; SteppedDown, the contract of a step
+--   halvesAt l n t v         the halves of node v if it is sound; SteppedDown, what a step from there answers
+--   Steps                    what a step needs of a node, whatever its hours; SteppedFrom, its contract
 --   walkCheck r              what a walk says, as a check
 --   Asked l d x stop         the walk is for depth d, whose nodes cover `stop` hours, and a column x that has an hour
 --   Walks                    what a walk says of node v and the nodes below it
 --   InnerBelow cs ks i       the first and the last node of an inner range are lent, with all below them
 --   WalkedFrom               the contract of the walk below a node; TableWalked, of that from the root values
 use mathlib.Core.Path.{_≡_}
-use mathlib.Core.Bool.{true, cond}
+use mathlib.Core.Bool.{Bool, true, false, cond}
 use mathlib.Core.List.{List}
-use Prim.Native.Nat.{ℕ, suc, _+_, _-_, _^_, _≤_, _<_}
+use Prim.Native.Nat.{ℕ, suc, _+_, _*_, _-_, _^_, _≤_, _<_}
 use lib.IntN.{ℤ}
+use lib.ListN.{length}
 use Rattle.words.specs.declared.Column.{Column}
+use Rattle.words.specs.declared.NodeId.{NodeId}
+use Rattle.words.specs.declared.Timestamp.{Timestamp}
 use Rattle.words.specs.declared.Range.{Range}
 use Rattle.words.specs.declared.Refusal.the-variants as refusal
 use Rattle.om3.specs.Lists.{keep}
@@ -26,7 +30,7 @@ use Rattle.om3.specs.Sound.{soundNode, nodesBelow, examine}
 use Rattle.om3.specs.Stopped.{opened, openedNodes, visited}
 use Rattle.node.specs.declared.Halves.{Halves}
 use Rattle.turning.specs.Turning.{examineNodes}
-use Rattle.walking.specs.Nodes.{At, Below}
+use Rattle.walking.specs.Nodes.{At, Below, pairOf}
 use Rattle.walking.specs.Seen.{seenOf, tableSeen}
 use Rattle.walking.specs.declared.Reached.{Reached}
 use Rattle.walking.specs.declared.Inner.{Inner}
@@ -42,6 +46,18 @@ halvesAt l n t v =
 pub record SteppedDown (n : ℕ) (cs : List ℤ) (ks : List ℕ) (at : Reached) (r : Halves) : Type 0 where
   pub halves : (l : ℕ) (v : Node) → At l (lent cs ks) v at → r ≡ halvesAt l n (lent cs ks) v
   pub readings : (a b : Range) → r ≡ Halves.Sound a b → Readings a × Readings b
+
+-- It needs a range of readings, and the code of a pair or the details of another node in the buffers.
+pub record Steps (cs : List ℤ) (ks : List ℕ) (i : NodeId) (t : Timestamp) (pair : Bool) (range : Range) : Type 0 where
+  pub readings : Readings range
+  pub code : pair ≡ true → t .0 + 2 ≤ 2 * length ks
+  pub details : pair ≡ false → 2 * i .0 + 2 ≤ length cs
+
+-- It answers for every node of two hours or more that has these parts.
+abbrev pub SteppedFrom : ℕ → List ℤ → List ℕ → NodeId → Timestamp → Bool → Range → Halves → Type 0
+SteppedFrom n cs ks i t pair range r =
+    (w : ℕ) → 2 ≤ w → pair ≡ pairOf w
+    → SteppedDown n cs ks (record { id = i; from = t; hours = w; range = range }) r
 
 -- A walk is through exactly if the nodes that it opened are sound. [refusals 4]
 abbrev pub walkCheck : Walked → Check

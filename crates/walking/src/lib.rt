@@ -1,5 +1,9 @@
 // Going down a table for a column: one examined step from a node to its halves, the walk over the nodes that the column
 // opens, and the descent to its first or to its last reading.
+mod by_parts;
+mod nodes;
+mod sight;
+
 use node::Halves;
 use node::Root;
 use words::Column;
@@ -8,12 +12,11 @@ use words::Range;
 use words::Reading;
 use words::Timestamp;
 ghost use mathlib.Core.Path.{_≡_};
-ghost use Prim.Native.Nat.{_+_, _*_, _^_, _≤_, _<_};
+ghost use Prim.Native.Nat.{_+_, _*_, _≤_};
 ghost use lib.ListN.{length};
 ghost use Rattle.turning.specs.Turning.{TableLent};
-ghost use Rattle.walking.specs.Nodes.{leftReached, rightReached, touchesOf, insideOf, openedOf, Below};
-ghost use Rattle.walking.specs.Seen.{unopenedOf, bothInner, bothSeen};
-ghost use Rattle.walking.specs.Walking.{SteppedDown, WalkedFrom, TableWalked};
+ghost use Rattle.walking.specs.Nodes.{Below};
+ghost use Rattle.walking.specs.Walking.{Steps, SteppedFrom, WalkedFrom, TableWalked};
 ghost use Rattle.walking.specs.Narrowing.{NarrowedFrom};
 ghost use Rattle.walking.specs.Descending.{takesLeft, DescendedFrom};
 
@@ -76,173 +79,27 @@ pub enum Descended {
 }
 
 // One step down from a node of two hours or more, whose range is one of readings and whose details or code are there:
-// the ranges of its halves, or that it is unsound. The node's parts are handed over one by one, for speed alone.
+// the ranges of its halves, or that it is unsound. The node's parts are handed over one by one, and of its hours only
+// whether it is a pair, for speed alone: the compiler then puts the step into the loops that take it.
 fn step(
     n: usize,
     coefficients: &[i32],
     codes: &[u8],
     i: NodeId,
     t: Timestamp,
-    hours: usize,
+    pair: bool,
     range: Range,
 ) -> Halves
-    requires { ⌜ 2 ≤ hours ⌝ }
-    requires { ⌜ Below (now coefficients) (now codes) (record { id = i; from = t; hours = hours; range = range }) ⌝ }
-    ensures { λ r. ⌜ SteppedDown n (now (coefficients .entry)) (now (codes .entry))
-        (record { id = i; from = t; hours = hours; range = range }) r ⌝ }
+    requires { ⌜ Steps (now coefficients) (now codes) i t pair range ⌝ }
+    ensures { λ r. ⌜ SteppedFrom n (now (coefficients .entry)) (now (codes .entry)) i t pair range r ⌝ }
 {
-    if hours < 4 {
+    if pair {
         return turning::pair_halves(n, codes, t, range);
     }
     // The details of a node stand at the numbers of its halves.
     let left_number = 2 * i.0;
     let right_number = left_number + 1;
     node::half_ranges(range, coefficients[left_number], coefficients[right_number])
-}
-
-// The halves of a node, whose numbers and hours are not too large.
-fn left_half(at: Reached, range: Range) -> Reached
-    requires { ⌜ 2 * at .id .0 < 2 ^ 63 ⌝ }
-    ensures { λ r. ⌜ r ≡ leftReached at range ⌝ }
-{
-    let number = 2 * at.id.0;
-    let from = at.from;
-    let half = at.hours / 2;
-    Reached {
-        id: NodeId(number),
-        from,
-        hours: half,
-        range,
-    }
-}
-
-fn right_half(at: Reached, range: Range) -> Reached
-    requires { ⌜ 2 * at .id .0 < 2 ^ 63 ⌝ }
-    requires { ⌜ at .from .0 + at .hours < 2 ^ 64 ⌝ }
-    ensures { λ r. ⌜ r ≡ rightReached at range ⌝ }
-{
-    let number = 2 * at.id.0 + 1;
-    let half = at.hours / 2;
-    let middle = at.from.0 + half;
-    Reached {
-        id: NodeId(number),
-        from: Timestamp(middle),
-        hours: half,
-        range,
-    }
-}
-
-// Whether a node has a reading and shares an hour with the column, which has an hour. Here and below, the node ends at
-// an hour that is not too large.
-fn touches(x: Column, at: Reached) -> bool
-    requires { ⌜ at .from .0 + at .hours < 2 ^ 64 ⌝ }
-    ensures { λ r. ⌜ r ≡ touchesOf x at ⌝ }
-{
-    let range = at.range;
-    let end = at.from.0 + at.hours;
-    match range {
-        Range::Empty => false,
-        Range::Held { low: _, high: _ } => x.from.0 < end && at.from.0 < x.upto.0,
-    }
-}
-
-// Whether it lies wholly inside the column.
-fn is_inside(x: Column, at: Reached) -> bool
-    requires { ⌜ at .from .0 + at .hours < 2 ^ 64 ⌝ }
-    ensures { λ r. ⌜ r ≡ insideOf x at ⌝ }
-{
-    let end = at.from.0 + at.hours;
-    x.from.0 <= at.from.0 && end <= x.upto.0
-}
-
-// Whether it is opened, at the depth whose nodes cover `stop` hours.
-fn is_opened(x: Column, stop: usize, at: Reached) -> bool
-    requires { ⌜ at .from .0 + at .hours < 2 ^ 64 ⌝ }
-    ensures { λ r. ⌜ r ≡ openedOf x stop at ⌝ }
-{
-    if touches(x, at) {
-        if is_inside(x, at) {
-            return false;
-        }
-        return stop < at.hours;
-    }
-    false
-}
-
-// What is seen at a node that is not opened, with so many opened before it.
-fn unopened(x: Column, opened: usize, at: Reached) -> Seen
-    requires { ⌜ at .from .0 + at .hours < 2 ^ 64 ⌝ }
-    ensures { λ r. ⌜ r ≡ unopenedOf x opened at ⌝ }
-{
-    let range = at.range;
-    if touches(x, at) {
-        if is_inside(x, at) {
-            return Seen {
-                outer: range,
-                inner: Inner::Nodes {
-                    range,
-                    first: at,
-                    last: at,
-                },
-                opened,
-            };
-        }
-        return Seen {
-            outer: range,
-            inner: Inner::Nothing,
-            opened,
-        };
-    }
-    Seen {
-        outer: Range::Empty,
-        inner: Inner::Nothing,
-        opened,
-    }
-}
-
-// The inner nodes of the left half and then those of the right half.
-fn both_inner(a: Inner, b: Inner) -> Inner
-    ensures { λ r. ⌜ r ≡ bothInner a b ⌝ }
-{
-    match a {
-        Inner::Nothing => b,
-        Inner::Nodes {
-            range,
-            first,
-            last: _,
-        } => match b {
-            Inner::Nothing => a,
-            Inner::Nodes {
-                range: further,
-                first: _,
-                last,
-            } => {
-                let all = node::both(range, further);
-                Inner::Nodes {
-                    range: all,
-                    first,
-                    last,
-                }
-            }
-        },
-    }
-}
-
-// What was seen in the left half and, after it, in the right half.
-fn both_seen(a: Seen, b: Seen) -> Seen
-    ensures { λ r. ⌜ r ≡ bothSeen a b ⌝ }
-{
-    let left = a.outer;
-    let right = b.outer;
-    let before = a.inner;
-    let after = b.inner;
-    let outer = node::both(left, right);
-    let inner = both_inner(before, after);
-    Seen {
-        outer,
-        inner,
-        opened: b.opened,
-    }
 }
 
 // Walks from a node, opening each that is to be opened, as long as no more than one of the two halves touches the
@@ -262,21 +119,22 @@ fn narrow(
     requires { ⌜ 1 ≤ stop ⌝ }
     ensures { λ r. ⌜ NarrowedFrom n (now (coefficients .entry)) (now (codes .entry)) x stop before start r ⌝ }
 {
-    let mut at = start;
+    let mut at = by_parts::copy_node(start);
     let mut opened = before;
-    while is_opened(x, stop, at) {
+    while nodes::is_opened(x, stop, at) {
         let id = at.id;
         let from = at.from;
         let range = at.range;
-        let halves = step(n, coefficients, codes, id, from, at.hours, range);
+        let pair = nodes::is_pair(at.hours);
+        let halves = step(n, coefficients, codes, id, from, pair, range);
         let Halves::Sound { left, right } = halves else {
             return Narrowed::Unsound(id);
         };
-        let first = left_half(at, left);
-        let second = right_half(at, right);
+        let first = nodes::left_half(at, left);
+        let second = nodes::right_half(at, right);
         opened = opened + 1;
-        if touches(x, second) {
-            if touches(x, first) {
+        if nodes::touches(x, second) {
+            if nodes::touches(x, first) {
                 return Narrowed::Split {
                     first,
                     second,
@@ -310,7 +168,7 @@ fn walk(
 {
     match narrow(n, coefficients, codes, x, stop, before, start) {
         Narrowed::Unsound(i) => Walked::Unsound(i),
-        Narrowed::Ended { at, opened } => Walked::Through(unopened(x, opened, at)),
+        Narrowed::Ended { at, opened } => Walked::Through(sight::unopened(x, opened, at)),
         Narrowed::Split {
             first,
             second,
@@ -324,7 +182,7 @@ fn walk(
             let Walked::Through(b) = right else {
                 return right;
             };
-            Walked::Through(both_seen(a, b))
+            Walked::Through(sight::both_seen(a, b))
         }
     }
 }
@@ -385,15 +243,16 @@ pub fn descend(
         let id = at.id;
         let from = at.from;
         let range = at.range;
-        let halves = step(n, coefficients, codes, id, from, at.hours, range);
+        let pair = nodes::is_pair(at.hours);
+        let halves = step(n, coefficients, codes, id, from, pair, range);
         let Halves::Sound { left, right } = halves else {
             return Descended::Unsound(id);
         };
         levels = levels + 1;
         if takes_left(towards, left, right) {
-            at = left_half(at, left);
+            at = nodes::left_half(at, left);
         } else {
-            at = right_half(at, right);
+            at = nodes::right_half(at, right);
         }
     }
     let hour = at.from;

@@ -31,7 +31,7 @@ fn put_record(n: usize, coefficients: &[i32], codes: &[u8], bytes: &mut [u8])
     let places = coefficients.len();
     let size = sizes::record_size(places);
     put_header(size - words::LENGTH_SIZE, n, bytes);
-    let at = words::HEADER_SIZE + 3 * places;
+    let at = words::HEADER_SIZE + words::COEFFICIENT_SIZE * places;
     packing::pack(coefficients, &mut bytes[words::HEADER_SIZE..at]);
     bytes::copy(codes, &mut bytes[at..]);
 }

@@ -15,8 +15,8 @@ use Rattle.walking.proofs.walk.Kinds as kinds
 use Rattle.walking.proofs.+walk.Lts-walk as lts
 use Rattle.walking.proofs.+walk.{statement}
 use Rattle.walking.proofs.+walk.Tie.{close}
-use Rattle.walking.proofs.both_seen.Reads as both-seen-reads
-use Rattle.walking.proofs.unopened.Reads as unopened-reads
+use Rattle.walking.proofs.sight.both_seen.Reads as both-seen-reads
+use Rattle.walking.proofs.sight.unopened.Reads as unopened-reads
 use Rattle.walking.proofs.narrow.Reads as narrow-reads
 
 abbrev hoursOf : Measures 2 kinds.ps ℕ

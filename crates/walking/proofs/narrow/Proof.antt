@@ -8,7 +8,7 @@ use borrow.Author.Needs.{needs}
 use Rattle.node.specs.declared.Halves.{Halves}
 use Rattle.walking.specs.Nodes.{openedOf}
 use Rattle.walking.specs.Walking.{SteppedDown}
-use Rattle.walking.proofs.Lending.{small-number}
+use Rattle.walking.proofs.Lending.{steps, small-number}
 use Rattle.walking.proofs.Narrowing as laws
 use Rattle.walking.proofs.Narrowing.{CameTo}
 use Rattle.walking.proofs.narrow.Statement.{statement}
@@ -21,49 +21,71 @@ Inv-loop n coefficients codes x stop c at₀ opened₀ at opened =
 abbrev μ-loop : tie.MeasureT-loop
 μ-loop n coefficients codes x stop c at₀ opened₀ at opened = at .hours
 
+-- It began at the node that was handed over.
+came : (c : tie.At-loop Inv-loop μ-loop) →
+    (let a = c .before .before .before .args in
+    CameTo (a .n) (a .coefficients .now) (a .codes .now) (a .x) (a .stop) (a .before) (a .start)
+    (c .loop .at) (c .loop .opened))
+came c = rw (c .before .copy-node .ensures) at (c .loop .inv)
+
 -- The node that the walk is at ends at an hour that is counted without overflow.
 ends-early : (c : tie.At-loop Inv-loop μ-loop) → c .loop .at .from .0 + c .loop .at .hours < 2 ^ 64
-ends-early c = omega (arith, c .loop .inv .below .codes, c .before .before .good)
+ends-early c = omega (arith, c .loop .inv .below .codes, c .before .before .before .good)
 
 -- It is opened, so it covers two hours or more, and its number can be doubled.
 opens : (c : tie.Then1 Inv-loop μ-loop) →
-    (let start = c .before .before .before .before in
+    (let start = c .before .before .before .before .before in
     openedOf (start .args .x) (start .args .stop) (c .before .before .loop .at) ≡ true)
 opens c = sym (c .before .is-opened .ensures) ∙ c .if1 .taken
 
 two-hours : (c : tie.Then1 Inv-loop μ-loop) → 2 ≤ c .before .before .loop .at .hours
 two-hours c =
-    let start = c .before .before .before .before in
+    let start = c .before .before .before .before .before in
     laws.opened-hours (start .args .x) (start .args .stop) (c .before .before .loop .at) (start .pre .1 .1) (opens c)
 
 small : (c : tie.Then1 Inv-loop μ-loop) → 2 * c .before .before .loop .at .id .0 < 2 ^ 63
 small c =
     let here = c .before .before in
-    omega (arith, small-number _ _ _ (here .loop .inv .below) (two-hours c), here .before .before .good)
+    omega (arith, small-number _ _ _ (here .loop .inv .below) (two-hours c), here .before .before .before .good)
+
+-- The step is one from this node.
+stepped : (c : tie.After-step Inv-loop μ-loop) →
+    (let here = c .before .before .before .before .before .before in
+    let a = here .before .before .before .args in
+    SteppedDown (a .n) (a .coefficients .now) (a .codes .now) (here .loop .at) (c .step .result))
+stepped c = c .step .ensures _ (two-hours (c .before .before .before .before)) (c .before .is-pair .ensures)
 
 -- It is sound, and these are its halves.
 abbrev opened-at : tie.After-right-half Inv-loop μ-loop → tie.Then1 Inv-loop μ-loop
-opened-at c = c .before .before .before .before .before .before .before .before
+opened-at c = c .before .before .before .before .before .before .before .before .before
 
 halves : (c : tie.After-right-half Inv-loop μ-loop) →
     (let here = opened-at c .before .before in
-    let a = here .before .before .args in
+    let a = here .before .before .before .args in
     let parts = c .before .before .before .halves .given .0 in
     SteppedDown (a .n) (a .coefficients .now) (a .codes .now) (here .loop .at) (Halves.Sound (parts .0) (parts .1 .0)))
 halves c =
     let c3 = c .before .before .before in
-    rw (c3 .halves .given .1) at (c3 .before .before .step .ensures)
+    rw (c3 .halves .given .1) at (stepped (c3 .before .before))
+
+copy-node-requires : tie.Need-copy-node-requires Inv-loop μ-loop
+copy-node-requires c κs = search needs
 
 loop-holds : tie.Need-loop-holds Inv-loop μ-loop
-loop-holds c = laws.at-start _ _ _ _ _ _ _ (c .before .pre .0) (c .before .pre .1 .0)
+loop-holds c =
+    let start = c .before .before in
+    rw (c .copy-node .ensures) (laws.at-start _ _ _ _ _ _ _ (start .pre .0) (start .pre .1 .0))
 
 is-opened-requires : tie.Need-is-opened-requires Inv-loop μ-loop
 is-opened-requires c κs = ends-early c
 
+is-pair-requires : tie.Need-is-pair-requires Inv-loop μ-loop
+is-pair-requires c κs = search needs
+
 step-requires : tie.Need-step-requires Inv-loop μ-loop
 step-requires c κs =
-    let c2 = c .before .before in
-    (two-hours c2, c2 .before .before .loop .inv .below)
+    let then = c .before .before .before in
+    rw (c .is-pair .ensures) (steps _ _ _ (then .before .before .loop .inv .below) (two-hours then))
 
 enum-known-halves : tie.Need-enum-known-halves Inv-loop μ-loop
 enum-known-halves c = search needs
@@ -74,22 +96,23 @@ enum-told c = search needs
 returns : tie.Need-returns Inv-loop μ-loop
 returns c =
     let c2 = c .before .before in
-    let c5 = c2 .before .before .before in
-    let step = rw (c .enum-told .given .1) at (c2 .step .ensures) in
-    laws.unsound _ _ _ _ _ _ _ _ _ (c5 .before .before .loop .inv) (opens c5) (two-hours c5) step
+    let then = c2 .before .before .before .before in
+    let here = then .before .before in
+    let step = rw (c .enum-told .given .1) at (stepped c2) in
+    laws.unsound _ _ _ _ _ _ _ _ _ (came here) (opens then) (two-hours then) step
 
 left-half-requires : tie.Need-left-half-requires Inv-loop μ-loop
-left-half-requires c κs = small (c .before .before .before .before .before .before)
+left-half-requires c κs = small (c .before .before .before .before .before .before .before)
 
 right-half-requires : tie.Need-right-half-requires Inv-loop μ-loop
 right-half-requires c κs =
-    let c7 = c .before .before .before .before .before .before .before in
-    (small c7, ends-early (c7 .before .before))
+    let then = c .before .before .before .before .before .before .before .before in
+    (small then, ends-early (then .before .before))
 
 add-opened : tie.Need-add-opened Inv-loop μ-loop
 add-opened c =
-    let here = c .before .before .before .before .before .before .before .before .before .before in
-    omega (arith, here .loop .inv .room, here .loop .inv .below .some, here .before .before .good)
+    let here = opened-at c .before .before in
+    omega (arith, here .loop .inv .room, here .loop .inv .below .some, here .before .before .before .good)
 
 touches-requires : tie.Need-touches-requires Inv-loop μ-loop
 touches-requires c κs = rw (c .right-half .ensures) (omega (arith, ends-early (opened-at c .before .before)))
@@ -103,8 +126,9 @@ returns-2 : tie.Need-returns-2 Inv-loop μ-loop
 returns-2 c =
     let c4 = c .before .before .before .before in
     let then = opened-at c4 in
+    let here = then .before .before in
     rw (c4 .right-half .ensures, c4 .before .left-half .ensures)
-    (laws.splits _ _ _ _ _ _ _ _ _ (then .before .before .loop .inv) (opens then) (two-hours then) _ _ (halves c4))
+    (laws.splits _ _ _ _ _ _ _ _ _ (came here) (opens then) (two-hours then) _ _ (halves c4))
 
 loop-less : tie.Need-loop-less Inv-loop μ-loop
 loop-less c =
@@ -137,7 +161,7 @@ loop-again-2 c =
 returns-3 : tie.Need-returns-3 Inv-loop μ-loop
 returns-3 c =
     let closed = sym (c .before .is-opened .ensures) ∙ c .if1 .left in
-    laws.ends _ _ _ _ _ _ _ _ _ (c .before .before .loop .inv) closed
+    laws.ends _ _ _ _ _ _ _ _ _ (came (c .before .before)) closed
 
 pub narrow-spec : {M : Type 1} → statement M
 narrow-spec =
@@ -145,8 +169,10 @@ narrow-spec =
     (tie.spec
     Inv-loop
     μ-loop
+    copy-node-requires
     loop-holds
     is-opened-requires
+    is-pair-requires
     step-requires
     enum-known-halves
     enum-told

@@ -1,28 +1,28 @@
--- `step` takes a pair's step at fewer than four hours, and else goes down by the details, which stand at the numbers of
--- the halves. Assumes nothing.
-use Prim.Native.Nat.{_+_, _*_, _/_, _≤_}
+-- `step` takes a pair's step at a pair, and else goes down by the details, which stand at the numbers of the halves.
+-- Assumes nothing.
+use mathlib.Core.Path.{sym, _∙_}
+use Prim.Native.Nat.{_+_, _*_, _≤_}
 use native.Mathlib.Omega.{arith}
 use lib.IntN.{pos}
 use lib.ListN.{length, getD}
+use borrow.Author.Tests.{ltb-true, ltb-false}
 use Rattle.signed.proofs.Widths.{reads-back}
-use Rattle.om3.proofs.Rooms.{places-room}
 use Rattle.walking.proofs.Stepping as laws
 use Rattle.walking.proofs.step.Statement.{statement}
 use Rattle.walking.proofs.step.Tie as tie
 
 -- Both details of a node of two halves stand in the coefficients.
 room : (c : tie.Else1) → 2 * c .before .before .args .i .0 + 2 ≤ length (c .before .before .args .coefficients .now)
-room c =
-    let w : 2 ≤ c .before .before .args .hours / 2 = omega (arith, c .if1 .left) in
-    places-room _ _ _ w (c .before .before .pre .1 .details)
+room c = c .before .before .pre .details (c .if1 .left)
 
 pair-halves-requires : tie.Need-pair-halves-requires
-pair-halves-requires c κs = omega (arith, c .before .before .pre .1 .codes, c .before .before .pre .0)
+pair-halves-requires c κs = c .before .before .pre .code (c .if1 .taken)
 
 returns : tie.Need-returns
-returns c =
-    let c3 = c .before .before .before in
-    laws.pair-stepped _ _ _ _ _ _ _ (c3 .pre .0) (c .before .if1 .taken) (c3 .pre .1 .readings) _
+returns c w two told =
+    let pair = c .before .if1 .taken in
+    let start = c .before .before .before in
+    laws.pair-stepped _ _ _ _ _ w _ two (ltb-true w 4 (sym told ∙ pair)) (start .pre .readings) _
     (c .pair-halves .ensures)
 
 mul-left-number : tie.Need-mul-left-number
@@ -44,17 +44,17 @@ shared-slice-copy-out-half-ranges-2 : tie.Need-shared-slice-copy-out-half-ranges
 shared-slice-copy-out-half-ranges-2 c = omega (arith, room (c .before .before))
 
 half-ranges-requires : tie.Need-half-ranges-requires
-half-ranges-requires c κs = c .before .before .before .before .before .pre .1 .readings
+half-ranges-requires c κs = c .before .before .before .before .before .pre .readings
 
 returns-2 : tie.Need-returns-2
-returns-2 c =
+returns-2 c w two told =
     let c5 = c .before .before .before .before in
     let start = c5 .before .before in
     let cs = start .args .coefficients .now in
     let i = start .args .i .0 in
     let d = reads-back (getD cs (2 * i) (pos 0)) (c .before .before .half-ranges-arg .given) in
     let e = reads-back (getD cs (2 * i + 1) (pos 0)) (c .before .half-ranges-arg2 .given) in
-    laws.details-stepped _ _ _ _ _ _ _ (c5 .if1 .left) (start .pre .1 .readings) _
+    laws.details-stepped _ _ _ _ _ w _ (ltb-false w 4 (sym told ∙ c5 .if1 .left)) (start .pre .readings) _
     (rw (d, e) at (c .half-ranges .ensures))
 
 pub step-spec : {M : Type 1} → statement M

@@ -1,8 +1,8 @@
 -- `is_opened` makes the tests of the definition in its order. Assumes nothing.
 use mathlib.Core.Path.{sym, _∙_}
 use borrow.Author.Needs.{needs}
-use Rattle.walking.proofs.is_opened.Statement.{statement}
-use Rattle.walking.proofs.is_opened.Tie as tie
+use Rattle.walking.proofs.nodes.is_opened.Statement.{statement}
+use Rattle.walking.proofs.nodes.is_opened.Tie as tie
 
 touches-requires : tie.Need-touches-requires
 touches-requires c κs = search needs

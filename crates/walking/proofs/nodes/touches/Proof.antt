@@ -1,8 +1,8 @@
 -- `touches` goes by the cases of the range and makes the two tests of the definition. Assumes nothing.
 use borrow.Author.Tests.{lt-ltb, le-ltb}
 use borrow.Author.Needs.{needs}
-use Rattle.walking.proofs.touches.Statement.{statement}
-use Rattle.walking.proofs.touches.Tie as tie
+use Rattle.walking.proofs.nodes.touches.Statement.{statement}
+use Rattle.walking.proofs.nodes.touches.Tie as tie
 
 add-end : tie.Need-add-end
 add-end c = search needs

@@ -1,8 +1,8 @@
 -- `is_inside` makes the two tests of the definition. Assumes nothing.
 use borrow.Author.Tests.{le-leb, lt-leb}
 use borrow.Author.Needs.{needs}
-use Rattle.walking.proofs.is_inside.Statement.{statement}
-use Rattle.walking.proofs.is_inside.Tie as tie
+use Rattle.walking.proofs.nodes.is_inside.Statement.{statement}
+use Rattle.walking.proofs.nodes.is_inside.Tie as tie
 
 add-end : tie.Need-add-end
 add-end c = search needs

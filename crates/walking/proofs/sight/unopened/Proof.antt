@@ -1,8 +1,8 @@
 -- `unopened` goes by whether the node touches the column and lies inside it. Assumes nothing.
 use mathlib.Core.Path.{sym, _∙_}
 use borrow.Author.Needs.{needs}
-use Rattle.walking.proofs.unopened.Statement.{statement}
-use Rattle.walking.proofs.unopened.Tie as tie
+use Rattle.walking.proofs.sight.unopened.Statement.{statement}
+use Rattle.walking.proofs.sight.unopened.Tie as tie
 
 touches-requires : tie.Need-touches-requires
 touches-requires c κs = search needs
