@@ -25,16 +25,23 @@ small c =
     let here = c .before .before in
     omega (arith, small-number _ _ _ (here .loop .inv .below) (c .if1 .taken), here .before .before .good)
 
+-- Where a step, and the halves that it gave, come from: a node of two hours or more.
+abbrev steps-from : tie.After-is-pair Inv-loop μ-loop → tie.Then1 Inv-loop μ-loop
+steps-from c = c .before .before .before
+
+abbrev split-at : tie.After-halves Inv-loop μ-loop → tie.Then1 Inv-loop μ-loop
+split-at c = steps-from (c .before .before .before)
+
 -- The step is one from this node.
 stepped : (c : tie.After-step Inv-loop μ-loop) →
-    (let here = c .before .before .before .before .before .before in
+    (let here = steps-from (c .before) .before .before in
     let a = here .before .before .args in
     SteppedDown (a .n) (a .coefficients .now) (a .codes .now) (here .loop .at) (c .step .result))
-stepped c = c .step .ensures _ (c .before .before .before .before .if1 .taken) (c .before .is-pair .ensures)
+stepped c = c .step .ensures _ (steps-from (c .before) .if1 .taken) (c .before .is-pair .ensures)
 
 -- It is sound, and these are its halves.
 halves : (c : tie.After-halves Inv-loop μ-loop) →
-    (let here = c .before .before .before .before .before .before .before .before in
+    (let here = split-at c .before .before in
     let a = here .before .before .args in
     let parts = c .halves .given .0 in
     SteppedDown (a .n) (a .coefficients .now) (a .codes .now) (here .loop .at) (Halves.Sound (parts .0) (parts .1 .0)))
@@ -48,7 +55,7 @@ is-pair-requires c κs = search needs
 
 step-requires : tie.Need-step-requires Inv-loop μ-loop
 step-requires c κs =
-    let then = c .before .before .before in
+    let then = steps-from c in
     rw (c .is-pair .ensures) (steps _ _ _ (then .before .before .loop .inv .below) (then .if1 .taken))
 
 enum-known-halves : tie.Need-enum-known-halves Inv-loop μ-loop
@@ -60,50 +67,50 @@ enum-told c = search needs
 returns : tie.Need-returns Inv-loop μ-loop
 returns c =
     let c2 = c .before .before in
-    let then = c2 .before .before .before .before in
+    let then = steps-from (c2 .before) in
     let here = then .before .before in
     let step = rw (c .enum-told .given .1) at (stepped c2) in
     here .loop .inv .rest _ (laws.node-unsound _ _ _ _ _ _ (then .if1 .taken) step)
 
 add-levels : tie.Need-add-levels Inv-loop μ-loop
 add-levels c =
-    let here = c .before .before .before .before .before .before .before .before .before in
+    let here = split-at (c .before) .before .before in
     omega (arith, here .loop .inv .room, here .before .before .pre .codes, here .before .before .good)
 
 takes-left-requires : tie.Need-takes-left-requires Inv-loop μ-loop
 takes-left-requires c κs = search needs
 
 left-half-requires : tie.Need-left-half-requires Inv-loop μ-loop
-left-half-requires c κs = small (c .before .before .before .before .before .before .before .before .before)
+left-half-requires c κs = small (split-at (c .before .before .before))
 
 loop-less : tie.Need-loop-less Inv-loop μ-loop
 loop-less c =
-    let then = c .before .before .before .before .before .before .before .before .before .before in
+    let then = split-at (c .before .before .before .before) in
     rw (c .left-half .ensures) (omega (arith, then .if1 .taken))
 
 loop-again : tie.Need-loop-again Inv-loop μ-loop
 loop-again c =
     let c4 = c .before .before .before .before in
-    let then = c4 .before .before .before .before .before .before in
+    let then = split-at c4 in
     let takes = sym (c .before .before .takes-left .ensures) ∙ c .before .if2 .taken in
     rw (c .left-half .ensures)
     (laws.came-left _ _ _ _ _ _ _ (then .before .before .loop .inv) (then .if1 .taken) _ _ (halves c4) takes)
 
 right-half-requires : tie.Need-right-half-requires Inv-loop μ-loop
 right-half-requires c κs =
-    let then = c .before .before .before .before .before .before .before .before .before in
+    let then = split-at (c .before .before .before) in
     let here = then .before .before in
     (small then, omega (arith, here .loop .inv .below .codes, here .before .before .good))
 
 loop-less-2 : tie.Need-loop-less-2 Inv-loop μ-loop
 loop-less-2 c =
-    let then = c .before .before .before .before .before .before .before .before .before .before in
+    let then = split-at (c .before .before .before .before) in
     rw (c .right-half .ensures) (omega (arith, then .if1 .taken))
 
 loop-again-2 : tie.Need-loop-again-2 Inv-loop μ-loop
 loop-again-2 c =
     let c4 = c .before .before .before .before in
-    let then = c4 .before .before .before .before .before .before in
+    let then = split-at c4 in
     let takes = sym (c .before .before .takes-left .ensures) ∙ c .before .if2 .left in
     rw (c .right-half .ensures)
     (laws.came-right _ _ _ _ _ _ _ (then .before .before .loop .inv) (then .if1 .taken) _ _ (halves c4) takes)

@@ -48,17 +48,24 @@ small c =
     let here = c .before .before in
     omega (arith, small-number _ _ _ (here .loop .inv .below) (two-hours c), here .before .before .before .good)
 
+-- Where a step, the halves that it gave, and both halves as nodes come from: a node that is opened.
+abbrev steps-from : tie.After-is-pair Inv-loop μ-loop → tie.Then1 Inv-loop μ-loop
+steps-from c = c .before .before .before
+
+abbrev split-at : tie.After-halves Inv-loop μ-loop → tie.Then1 Inv-loop μ-loop
+split-at c = steps-from (c .before .before .before)
+
+abbrev opened-at : tie.After-right-half Inv-loop μ-loop → tie.Then1 Inv-loop μ-loop
+opened-at c = split-at (c .before .before .before)
+
 -- The step is one from this node.
 stepped : (c : tie.After-step Inv-loop μ-loop) →
-    (let here = c .before .before .before .before .before .before in
+    (let here = steps-from (c .before) .before .before in
     let a = here .before .before .before .args in
     SteppedDown (a .n) (a .coefficients .now) (a .codes .now) (here .loop .at) (c .step .result))
-stepped c = c .step .ensures _ (two-hours (c .before .before .before .before)) (c .before .is-pair .ensures)
+stepped c = c .step .ensures _ (two-hours (steps-from (c .before))) (c .before .is-pair .ensures)
 
 -- It is sound, and these are its halves.
-abbrev opened-at : tie.After-right-half Inv-loop μ-loop → tie.Then1 Inv-loop μ-loop
-opened-at c = c .before .before .before .before .before .before .before .before .before
-
 halves : (c : tie.After-right-half Inv-loop μ-loop) →
     (let here = opened-at c .before .before in
     let a = here .before .before .before .args in
@@ -84,7 +91,7 @@ is-pair-requires c κs = search needs
 
 step-requires : tie.Need-step-requires Inv-loop μ-loop
 step-requires c κs =
-    let then = c .before .before .before in
+    let then = steps-from c in
     rw (c .is-pair .ensures) (steps _ _ _ (then .before .before .loop .inv .below) (two-hours then))
 
 enum-known-halves : tie.Need-enum-known-halves Inv-loop μ-loop
@@ -96,17 +103,17 @@ enum-told c = search needs
 returns : tie.Need-returns Inv-loop μ-loop
 returns c =
     let c2 = c .before .before in
-    let then = c2 .before .before .before .before in
+    let then = steps-from (c2 .before) in
     let here = then .before .before in
     let step = rw (c .enum-told .given .1) at (stepped c2) in
     laws.unsound _ _ _ _ _ _ _ _ _ (came here) (opens then) (two-hours then) step
 
 left-half-requires : tie.Need-left-half-requires Inv-loop μ-loop
-left-half-requires c κs = small (c .before .before .before .before .before .before .before)
+left-half-requires c κs = small (split-at (c .before))
 
 right-half-requires : tie.Need-right-half-requires Inv-loop μ-loop
 right-half-requires c κs =
-    let then = c .before .before .before .before .before .before .before .before in
+    let then = split-at (c .before .before) in
     (small then, ends-early (then .before .before))
 
 add-opened : tie.Need-add-opened Inv-loop μ-loop
