@@ -60,7 +60,7 @@ struct sagivelume_told {
 };
 
 /* Places of the lent coefficients: `length` of them from place `start` on. */
-struct sagivelume_places {
+struct sagivelume_stretch {
     size_t start;
     size_t length;
 };
@@ -166,7 +166,7 @@ struct sagivelume_told sagivelume_turn_back(
 /* Tells where the details of level j stand, j from 0 to l - 2: those of nodes 2^j to 2^(j+1) - 1, low detail and high
  * detail of each in turn. Needs P coefficients, of which none is read. No refusal: start and length are 0 for any other
  * j, and for the causes of 1 and 3. */
-struct sagivelume_places sagivelume_level(
+struct sagivelume_stretch sagivelume_level(
     size_t n,
     size_t j,
     const int32_t *coefficients, size_t coefficients_length);

@@ -6,7 +6,7 @@
 use crate::column::Column;
 use crate::finished::Answer;
 use crate::told::{
-    Places, Told, ToldAnswer, ToldBytes, ToldChange, ToldCoefficient, ToldColumn, ToldFinished, ToldHours,
+    Stretch, Told, ToldAnswer, ToldBytes, ToldChange, ToldCoefficient, ToldColumn, ToldFinished, ToldHours,
     ToldRanges, ToldRecord,
 };
 
@@ -37,7 +37,7 @@ extern "C" {
         hours_length: usize,
     ) -> Told;
 
-    fn sagivelume_level(n: usize, j: usize, coefficients: *const i32, coefficients_length: usize) -> Places;
+    fn sagivelume_level(n: usize, j: usize, coefficients: *const i32, coefficients_length: usize) -> Stretch;
 
     fn sagivelume_write_record(
         n: usize,
@@ -134,7 +134,7 @@ pub fn turn_back(n: usize, coefficients: &[i32], codes: &[u8], hours: &mut [i32]
 }
 
 /// The details of one level.
-pub fn level(n: usize, j: usize, coefficients: &[i32]) -> Places {
+pub fn level(n: usize, j: usize, coefficients: &[i32]) -> Stretch {
     // SAFETY: as at the `extern` block: one live slice with its length, which is only read.
     unsafe { sagivelume_level(n, j, coefficients.as_ptr(), coefficients.len()) }
 }

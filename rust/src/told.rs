@@ -94,12 +94,12 @@ impl ToldCoefficient {
 
 /// A part of a lent slice.
 #[repr(C)]
-pub struct Places {
+pub struct Stretch {
     start: usize,
     length: usize,
 }
 
-impl Places {
+impl Stretch {
     /// The part itself.
     pub fn of<T>(self, lent: &[T]) -> &[T] {
         &lent[self.start..][..self.length]

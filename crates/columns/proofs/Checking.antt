@@ -2,31 +2,28 @@
 use mathlib.Core.Path.{_≡_, refl, ap, _∙_}
 use mathlib.Core.Bool.{Bool, true, false, not, _&&_, _||_}
 use mathlib.Core.List.{List, [], _∷_, _++_}
-use Prim.Native.Nat.{ℕ, _+_, _*_, _/_, _≤_, _<_}
+use Prim.Native.Nat.{ℕ, _+_, _*_, _≤_, _<_}
 use native.Mathlib.Omega.{arith}
 use lib.Dec.{leb, ltb, eqb}
 use lib.IntN.{ℤ}
-use lib.ListN.{length}
-use borrow.Author.Tests.{lt-ltb, le-ltb, le-leb, lt-leb, leb-true, leb-false, ltb-true, ltb-false, not-false}
+use borrow.Author.Tests.{le-leb, lt-leb, leb-true, leb-false, ltb-true, ltb-false, not-false}
 use Rattle.words.specs.Constants.{largestHours, mostColumns, dayHours}
 use Rattle.words.specs.declared.Refusal.{Refusal}
 use Rattle.words.specs.declared.Refusal.the-variants.{BadHours, ShortBuffer, BadWindow, BadColumn}
 use Rattle.words.specs.declared.Column.{Column}
 use Rattle.words.specs.declared.Edges.{Edges}
 use Rattle.words.specs.declared.Taking.{Taking}
-use Rattle.om3.specs.Series.{badHours, P}
+use Rattle.om3.specs.Series.{badHours}
 use Rattle.om3.specs.Table.{Table, lent}
 use Rattle.om3.specs.Checks.{Check, passes, refuses, andThen, inOrder}
 use Rattle.om3.specs.Calls.{takingBy}
-use Rattle.om3.specs.Refusals.{checkHours, checkRoom, tableShort, checkWindow, checkDay, checkColumn, edgesChecks}
-use Rattle.om3.specs.Refusals.{columnChecks, dayChecks}
+use Rattle.om3.specs.Refusals.{checkHours, checkRoom, tableShort, TableLent, checkWindow, checkDay, checkColumn}
+use Rattle.om3.specs.Refusals.{edgesChecks, columnChecks, dayChecks}
 use Rattle.om3.specs.Columns.{column, edgesBy}
 use Rattle.om3.proofs.Tests.{and-left, and-right, neither}
 use Rattle.om3.proofs.Examined.{then-passes, in-order-append, first-absent}
-use Rattle.om3.proofs.Making.{good-some}
-use Rattle.om3.proofs.Demand2.{coefficients-there, codes-there}
+use Rattle.om3.proofs.Lent.{table-lent as lent-whole}
 use Rattle.om3.proofs.Taken.{taken-passes, refused-refuses}
-use Rattle.turning.specs.Turning.{TableLent}
 use Rattle.columns.specs.Drawing.{Edged, lentChecks, windowChecks}
 
 -- Checks 1 and 3.
@@ -38,18 +35,14 @@ module _ (n : ℕ) (cs : List ℤ) (ks : List ℕ) where
   unfolding inOrder
   bad-hours b = rw b
 
-  module _ (good : badHours n ≡ false) (p : ℕ) (e : p ≡ P n) where
-    pub few-coefficients : length cs < p → Taking.Refused ShortBuffer ≡ takingBy (lentChecks n T)
+  module _ (good : badHours n ≡ false) where
+    pub short-table : tableShort n T ≡ true → Taking.Refused ShortBuffer ≡ takingBy (lentChecks n T)
     unfolding inOrder
-    few-coefficients h = rw (good, lt-ltb (length cs) (P n) (rw e at h))
+    short-table h = rw (good, h)
 
-    pub few-codes : p ≤ length cs → length ks < p / 2 → Taking.Refused ShortBuffer ≡ takingBy (lentChecks n T)
+    pub enough : tableShort n T ≡ false → Taking.Taken ≡ takingBy (lentChecks n T)
     unfolding inOrder
-    few-codes w h = rw (good, le-ltb (length cs) (P n) (rw e at w), lt-ltb (length ks) (P n / 2) (rw e at h))
-
-    pub enough : p ≤ length cs → p / 2 ≤ length ks → Taking.Taken ≡ takingBy (lentChecks n T)
-    unfolding inOrder
-    enough w h = rw (good, le-ltb (length cs) (P n) (rw e at w), le-ltb (length ks) (P n / 2) (rw e at h))
+    enough h = rw (good, h)
 
   pub lent-passes : Taking.Taken ≡ takingBy (lentChecks n T) → lentChecks n T ≡ passes
   lent-passes taken = taken-passes (lentChecks n T) taken
@@ -58,12 +51,7 @@ module _ (n : ℕ) (cs : List ℤ) (ks : List ℕ) where
   pub table-lent : lentChecks n T ≡ passes → TableLent n cs ks
   table-lent lends =
       let one = first-absent (badHours n) BadHours _ lends in
-      let room = first-absent (tableShort n T) ShortBuffer _ (one .1) .0 in
-      record {
-        most = good-some n (one .0) .1;
-        coefficients = coefficients-there n T room;
-        codes = codes-there n T room;
-      }
+      lent-whole n cs ks (one .0) (first-absent (tableShort n T) ShortBuffer _ (one .1) .0)
 
 -- Checks 5 and 6.
 module _ (n a b w k : ℕ) where

@@ -23,13 +23,13 @@ ghost use mathlib.Core.Path.{_≡_};
 ghost use Prim.Native.Nat.{_+_, _*_, _≤_};
 ghost use Rattle.words.specs.Constants.{largestHours};
 ghost use Rattle.om3.specs.Table.{lent as table};
+ghost use Rattle.om3.specs.Refusals.{TableLent};
 ghost use Rattle.om3.specs.Calls.{takingBy};
 ghost use Rattle.om3.specs.Columns.{edges as edgesOf};
 ghost use Rattle.om3.specs.Stopped.{stopped as stoppedOf};
 ghost use Rattle.om3.specs.Finished.{finished as finishedOf};
 ghost use Rattle.om3.specs.Joined.{joined};
 ghost use Rattle.om3.specs.Days.{dayChange};
-ghost use Rattle.turning.specs.Turning.{TableLent};
 ghost use Rattle.walking.specs.Nodes.{Below};
 ghost use Rattle.columns.specs.Drawing.{lentChecks, innerRange};
 ghost use Rattle.columns.specs.Drawing.{StoppedOver, StoppedAt, FoundFrom, FinishedOver};
@@ -55,10 +55,7 @@ fn check_lent(n: usize, coefficients: &[i32], codes: &[u8]) -> Taking
         return Taking::Refused(Refusal::BadHours);
     }
     let p = sizes::places(n);
-    if coefficients.len() < p {
-        return Taking::Refused(Refusal::ShortBuffer);
-    }
-    if codes.len() < p / 2 {
+    if sizes::table_short(p, coefficients.len(), codes.len()) {
         return Taking::Refused(Refusal::ShortBuffer);
     }
     Taking::Taken

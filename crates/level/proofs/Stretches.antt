@@ -20,10 +20,10 @@ use Rattle.om3.proofs.Levels.{levels-most}
 use Rattle.om3.proofs.Answers.{stretch-within}
 
 abbrev none : Stretch
-none = record { from = 0; size = 0 }
+none = record { start = 0; length = 0 }
 
 abbrev details : ℕ → Stretch
-details w = record { from = 2 * w; size = 2 * w }
+details w = record { start = 2 * w; length = 2 * w }
 
 module _ (n j lent : ℕ) where
   not-there : hasLevel n j lent ≡ false → none ≡ levelStretch n j lent
@@ -76,10 +76,10 @@ small-power w j e h =
 
 -- The part that the code takes is the stretch of the coefficients.
 module _ (n j : ℕ) (cs : List ℤ) (r : Stretch) (e : r ≡ levelStretch n j (length cs)) where
-  pub part-fits : r .from + r .size ≤ length cs
+  pub part-fits : r .start + r .length ≤ length cs
   part-fits = rw e (stretch-within n j (length cs))
 
-  pub part-is : take (r .from + r .size - r .from) (drop (r .from) cs) ≡ levelPart n j cs
+  pub part-is : take (r .start + r .length - r .start) (drop (r .start) cs) ≡ levelPart n j cs
   part-is =
-      let m : r .from + r .size - r .from ≡ r .size = omega arith in
+      let m : r .start + r .length - r .start ≡ r .length = omega arith in
       rw (m, e)

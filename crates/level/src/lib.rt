@@ -7,7 +7,10 @@ ghost use Rattle.om3.specs.Level.{levelStretch, levelPart};
 pub fn stretch(n: usize, j: usize, lent: usize) -> Stretch
     ensures { λ r. ⌜ r ≡ levelStretch n j lent ⌝ }
 {
-    let none = Stretch { from: 0, size: 0 };
+    let none = Stretch {
+        start: 0,
+        length: 0,
+    };
     if sizes::bad_hours(n) {
         return none;
     }
@@ -23,8 +26,8 @@ pub fn stretch(n: usize, j: usize, lent: usize) -> Stretch
         return none;
     }
     Stretch {
-        from: 2 * width,
-        size: 2 * width,
+        start: 2 * width,
+        length: 2 * width,
     }
 }
 
@@ -33,8 +36,8 @@ pub fn stretch(n: usize, j: usize, lent: usize) -> Stretch
 pub fn level(n: usize, j: usize, coefficients: &[i32]) -> &[i32]
     ensures { λ r. ⌜ now r ≡ levelPart n j (now (coefficients .entry)) ⌝ }
 {
-    let places = stretch(n, j, coefficients.len());
-    let from = places.from;
-    let upto = from + places.size;
-    &coefficients[from..upto]
+    let part = stretch(n, j, coefficients.len());
+    let start = part.start;
+    let end = start + part.length;
+    &coefficients[start..end]
 }

@@ -2,7 +2,7 @@
 use mathlib.Core.Path.{_≡_, _∙_}
 use mathlib.Core.Bool.{true, false, _||_}
 use mathlib.Core.List.{List}
-use Prim.Native.Nat.{ℕ, _/_, _≤_, _<_}
+use Prim.Native.Nat.{ℕ, _≤_, _<_}
 use lib.IntN.{ℤ}
 use lib.ListN.{length, set}
 use borrow.Author.Tests.{lt-ltb, le-ltb}
@@ -15,26 +15,26 @@ use Rattle.om3.specs.Series.{badHours, levels, P}
 use Rattle.om3.specs.Nodes.{root}
 use Rattle.om3.specs.Table.{Table, lent}
 use Rattle.om3.specs.Checks.{refuses, inOrder}
-use Rattle.om3.specs.Refusals.{short, tableShort, checkReadings, makingChecks}
+use Rattle.om3.specs.Refusals.{short, tableShort, TableLent, checkReadings, makingChecks}
 use Rattle.om3.specs.Calls.{takingBy}
 use Rattle.om3.proofs.Levels.{levels-some}
 use Rattle.om3.proofs.Located.{root-located}
 use Rattle.om3.proofs.Taken.{taken-passes, refused-refuses, making-decided}
-use Rattle.making.specs.Making.{Room, Filled, Tabled, Made}
+use Rattle.making.specs.Making.{Filled, Tabled, Made}
 use Rattle.making.proofs.Details.{coefficients-made}
 use Rattle.making.proofs.Codes.{codes-made}
 
 -- The recursion over node 1, with its low and high written, leaves the table.
 module _ (n : ℕ) (s : List ℤ) (p : ℕ) (cs cs₁ : List ℤ) (ks ks₁ : List ℕ) (r : Range) where
-  pub whole-table : Room n p (length cs) (length ks) → Filled n s 1 0 p cs cs₁ ks ks₁ r
+  pub whole-table : TableLent n cs ks → p ≡ P n → Filled n s 1 0 p cs cs₁ ks ks₁ r
       → (x y : ℤ) → x ≡ lowOf r → y ≡ highOf r → Tabled n s cs ks (set (set cs₁ 0 x) 1 y) ks₁
-  whole-table room done x y ex ey =
+  whole-table room e done x y ex ey =
       let l = levels n in
-      let at = done .below l root (rw (room .whole) (root-located l)) in
+      let at = done .below l root (rw e (root-located l)) in
       record {
         coefficients =
-            rw (ex, ey, at .range, at .coefficients) (coefficients-made l n s (levels-some n) cs (room .details));
-        codes = at .codes ∙ codes-made l n s (levels-some n) ks (room .pairs);
+            rw (ex, ey, at .range, at .coefficients) (coefficients-made l n s (levels-some n) cs (room .coefficients));
+        codes = at .codes ∙ codes-made l n s (levels-some n) ks (room .codes);
       }
 
 module _ (n : ℕ) (s : List ℤ) (cs : List ℤ) (ks : List ℕ) where
@@ -63,27 +63,19 @@ module _ (n : ℕ) (s : List ℤ) (cs : List ℤ) (ks : List ℕ) where
     few-readings h = no-room (rw (lt-ltb (length s) n h))
 
     module _ (read : n ≤ length s) where
-      pub few-coefficients : length cs < P n → Made n s cs ks cs ks (Taking.Refused ShortBuffer)
-      few-coefficients h = no-room (rw (le-ltb (length s) n read, lt-ltb (length cs) (P n) h))
+      pub short-table : tableShort n T ≡ true → Made n s cs ks cs ks (Taking.Refused ShortBuffer)
+      short-table h = no-room (rw (le-ltb (length s) n read, h))
 
-      module _ (details : P n ≤ length cs) where
-        pub few-codes : length ks < P n / 2 → Made n s cs ks cs ks (Taking.Refused ShortBuffer)
-        few-codes h =
-            no-room (rw (le-ltb (length s) n read, le-ltb (length cs) (P n) details, lt-ltb (length ks) (P n / 2) h))
+      module _ (room : tableShort n T ≡ false) where
+        last : makingChecks n s T ≡ checkReadings n s
+        last = making-decided n good s T (rw (le-ltb (length s) n read, room))
 
-        module _ (pairs : P n / 2 ≤ length ks) where
-          room : (short (length s) n || tableShort n T) ≡ false
-          room = rw (le-ltb (length s) n read, le-ltb (length cs) (P n) details, le-ltb (length ks) (P n / 2) pairs)
+        pub bad-reading : (why : Refusal) → Taking.Refused why ≡ takingBy (checkReadings n s)
+            → Made n s cs ks cs ks (Taking.Refused why)
+        bad-reading why e = refused why (last ∙ refused-refuses (checkReadings n s) why e)
 
-          last : makingChecks n s T ≡ checkReadings n s
-          last = making-decided n good s T room
-
-          pub bad-reading : (why : Refusal) → Taking.Refused why ≡ takingBy (checkReadings n s)
-              → Made n s cs ks cs ks (Taking.Refused why)
-          bad-reading why e = refused why (last ∙ refused-refuses (checkReadings n s) why e)
-
-          pub taken : Taking.Taken ≡ takingBy (checkReadings n s) → (cs₁ : List ℤ) (ks₁ : List ℕ)
-              → Tabled n s cs ks cs₁ ks₁ → Made n s cs ks cs₁ ks₁ Taking.Taken
-          taken e cs₁ ks₁ t =
-              let ok = last ∙ taken-passes (checkReadings n s) e in
-              record { answer = rw ok; coefficients = rw ok (t .coefficients); codes = rw ok (t .codes) }
+        pub taken : Taking.Taken ≡ takingBy (checkReadings n s) → (cs₁ : List ℤ) (ks₁ : List ℕ)
+            → Tabled n s cs ks cs₁ ks₁ → Made n s cs ks cs₁ ks₁ Taking.Taken
+        taken e cs₁ ks₁ t =
+            let ok = last ∙ taken-passes (checkReadings n s) e in
+            record { answer = rw ok; coefficients = rw ok (t .coefficients); codes = rw ok (t .codes) }

@@ -19,14 +19,14 @@ use Rattle.om3.specs.Days.{day}
 use Rattle.om3.proofs.Tests.{and-left, and-right, neither}
 
 -- A level's stretch lies within what is lent. [level 1]
-pub stretch-within : (n j lent : ℕ) → levelStretch n j lent .from + levelStretch n j lent .size ≤ lent
+pub stretch-within : (n j lent : ℕ) → levelStretch n j lent .start + levelStretch n j lent .length ≤ lent
 unfolding levelStretch
 stretch-within n j lent = by (hasLevel n j lent) refl
   where
     at : Bool → Stretch
-    at b = cond b (record { from = 2 * 2 ^ j; size = 2 * 2 ^ j }) (record { from = 0; size = 0 })
+    at b = cond b (record { start = 2 * 2 ^ j; length = 2 * 2 ^ j }) (record { start = 0; length = 0 })
 
-    by : (b : Bool) → hasLevel n j lent ≡ b → at b .from + at b .size ≤ lent
+    by : (b : Bool) → hasLevel n j lent ≡ b → at b .start + at b .length ≤ lent
     by false e = omega arith
     by true e =
         let bad = badHours n || short lent (P n) in

@@ -9,7 +9,7 @@ use native.Mathlib.Omega.{arith}
 use lib.IntN.{ℤ, pos, negℤ}
 use lib.ListN.{length, getD, take}
 use lib.Seq.{ext-getD, getD-take, length-take-le, take-all}
-use borrow.Author.Tests.{lt-ltb, ltb-false}
+use borrow.Author.Tests.{lt-ltb}
 use Rattle.signed.proofs.Rules.{signed}
 use Rattle.words.specs.Constants.{largestHours, largestReading, gap}
 use Rattle.words.specs.Said.{lowOf}
@@ -21,8 +21,8 @@ use Rattle.om3.specs.Nodes.{Node}
 use Rattle.om3.specs.Table.{Table, coefficient, codeOfPlace, tableOf, HasTable}
 use Rattle.om3.specs.Down.{reachedAt, reached, turnedBack}
 use Rattle.om3.specs.Sound.{soundTable}
-use Rattle.om3.specs.Refusals.{short, tableShort}
-use Rattle.om3.proofs.Tests.{left-true, neither, is-between}
+use Rattle.om3.specs.Refusals.{tableShort}
+use Rattle.om3.proofs.Tests.{left-true, is-between}
 use Rattle.om3.proofs.Lists.{map-up-length, map-up-from-0}
 use Rattle.om3.proofs.Levels.{levels-some, n≤P}
 use Rattle.om3.proofs.Nodes.{InTree, start-hour}
@@ -32,18 +32,8 @@ use Rattle.om3.proofs.Reached.{reached-range}
 use Rattle.om3.proofs.MadeSound.{made-sound}
 use Rattle.om3.proofs.SoundTables.{readings-reached}
 use Rattle.om3.proofs.TurnedBack.{turned-length, turned-at, coefficient-same, codes-same}
+use Rattle.om3.proofs.Lent.{coefficients-there, codes-there}
 use Rattle.om3.proofs.Agreeing.{Agree, reached-agrees, sound-agrees}
-
--- A buffer that is not too short has the places needed.
-module _ (n : ℕ) (t : Table) (room : tableShort n t ≡ false) where
-  parts : (short (length (t .coefficients)) (P n) ≡ false) × (short (length (t .codes)) (P n / 2) ≡ false)
-  parts = neither (short (length (t .coefficients)) (P n)) (short (length (t .codes)) (P n / 2)) room
-
-  pub coefficients-there : P n ≤ length (t .coefficients)
-  coefficients-there = ltb-false _ _ (parts .0)
-
-  pub codes-there : P n / 2 ≤ length (t .codes)
-  codes-there = ltb-false _ _ (parts .1)
 
 -- The low of a range of readings is a reading, or the gap mark where it is empty.
 low-holds : (r : Range) → Readings r → (isReading (lowOf r) || isGap (lowOf r)) ≡ true
@@ -118,28 +108,32 @@ module _ (n : ℕ) where
               rw (turned-at l t n k b) (low-holds (reachedAt l t l k) (readings-reached l n t ok _ i));
         }
 
-    pub turned-has : tableShort n t ≡ false → HasTable n (turnedBack l t n) t
-    turned-has room =
-        let o = levels-some n in
-        let S = turnedBack l t n in
-        let T = tableOf l n S in
-        let a = length-take-le (P n) (t .coefficients) (coefficients-there n t room) in
-        let b = length-take-le (P n / 2) (t .codes) (codes-there n t room) in
-        record {
-          coefficients =
-              ext-getD (pos 0) (take (P n) (t .coefficients)) (T .coefficients)
-              (a ∙ sym (map-up-length (coefficient l n S) 0 (P n)))
-              (λ p h.
-              let h′ : p < P n = omega (arith, a) in
-              getD-take (P n) (t .coefficients) p (pos 0) h′ ∙ sym (coefficient-same l n t ok o p h′));
-          codes =
-              ext-getD 0 (take (P n / 2) (t .codes)) (T .codes)
-              (b ∙ sym (map-up-length (codeOfPlace l n S) 0 (P n / 2)))
-              (λ p h.
-              let h′ : p < P n / 2 = omega (arith, b) in
-              getD-take (P n / 2) (t .codes) p 0 h′
-              ∙ sym (map-up-from-0 (codeOfPlace l n S) 0 (P n / 2) p h′ ∙ codes-same l n t ok o p h′));
-        }
+    module _ (room : tableShort n t ≡ false) where
+      abbrev series : List ℤ
+      series = turnedBack l t n
+
+      same-coefficients : take (P n) (t .coefficients) ≡ tableOf l n series .coefficients
+      same-coefficients =
+          let a = length-take-le (P n) (t .coefficients) (coefficients-there n t room) in
+          ext-getD (pos 0) (take (P n) (t .coefficients)) (tableOf l n series .coefficients)
+          (a ∙ sym (map-up-length (coefficient l n series) 0 (P n)))
+          (λ p h.
+          let h′ : p < P n = omega (arith, a) in
+          getD-take (P n) (t .coefficients) p (pos 0) h′ ∙ sym (coefficient-same l n t ok (levels-some n) p h′))
+
+      same-codes : take (P n / 2) (t .codes) ≡ tableOf l n series .codes
+      same-codes =
+          let b = length-take-le (P n / 2) (t .codes) (codes-there n t room) in
+          ext-getD 0 (take (P n / 2) (t .codes)) (tableOf l n series .codes)
+          (b ∙ sym (map-up-length (codeOfPlace l n series) 0 (P n / 2)))
+          (λ p h.
+          let h′ : p < P n / 2 = omega (arith, b) in
+          getD-take (P n / 2) (t .codes) p 0 h′
+          ∙ sym
+          (map-up-from-0 (codeOfPlace l n series) 0 (P n / 2) p h′ ∙ codes-same l n t ok (levels-some n) p h′))
+
+      pub turned-has : HasTable n (turnedBack l t n) t
+      turned-has = record { coefficients = same-coefficients; codes = same-codes }
 
   -- The table of a series turned back is the series: each reading and each gap at its own hour.
   pub made-turned : (s : List ℤ) → Series n s → turnedBack l (tableOf l n s) n ≡ s

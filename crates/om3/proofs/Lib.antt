@@ -21,6 +21,7 @@ pub mod SoundCodes
 pub mod SoundTables
 pub mod TurnedBack
 pub mod Agreeing
+pub mod Lent
 pub mod Demand2
 pub mod Making
 pub mod TableChecks

@@ -17,7 +17,7 @@ use Rattle.om3.specs.Record.{Bytes, bytesOf, InThree, threeBytes, signed
 use Rattle.om3.specs.Record.{headerOf, headerSize, bytesAt, lengthIn, versionIn, hoursIn, coefficientIn, tableIn}
 use Rattle.om3.proofs.Lists.{map-up-length, map-up-from-0}
 use Rattle.om3.proofs.Levels.{P-most}
-use Rattle.om3.proofs.Demand2.{coefficients-there, codes-there}
+use Rattle.om3.proofs.Lent.{coefficients-there, codes-there}
 use Rattle.om3.proofs.Bytes.{bytes-length, bytes-back, bytes-take, bytes-append, bytes-are}
 use Rattle.om3.proofs.ThreeBytes.{three-back, threes-size}
 

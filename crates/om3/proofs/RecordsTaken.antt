@@ -8,7 +8,6 @@ use Prim.Native.Nat.{ℕ, _+_, _*_, _/_, _≤_}
 use native.Mathlib.Omega.{arith}
 use lib.IntN.{ℤ}
 use lib.ListN.{length, take}
-use borrow.Author.Tests.{le-ltb}
 use Rattle.words.specs.Constants.{largestHours}
 use Rattle.om3.specs.Series.{Series, levels, P}
 use Rattle.om3.specs.Table.{Table, coefficient, codeOfPlace, tableOf, HasTable}
@@ -21,6 +20,7 @@ use Rattle.om3.specs.Record.{openingChecks, readingChecks}
 use Rattle.om3.proofs.Lists.{map-up-length}
 use Rattle.om3.proofs.Levels.{levels-some}
 use Rattle.om3.proofs.Examined.{then-passes, order-parts, examine-sound}
+use Rattle.om3.proofs.Lent.{not-short}
 use Rattle.om3.proofs.Demand2.{made-has, made-turned, has-sound, turned-series, turned-has}
 use Rattle.om3.proofs.Making.{good-some}
 use Rattle.om3.proofs.Threes.{sound-threes}
@@ -40,11 +40,6 @@ pub record-back : (n : ℕ) (t : Table) → n ≤ largestHours → tableShort n 
 record-back n t most room ok =
     record-table-in n t room (sound-threes (levels n) n t (levels-some n) ok) most
 
--- Room that is there is not short.
-room-enough : (n : ℕ) (t : Table) → P n ≤ length (t .coefficients) → P n / 2 ≤ length (t .codes)
-    → tableShort n t ≡ false
-room-enough n t a b = rw (le-ltb _ _ a, le-ltb _ _ b)
-
 -- The table that an opened record states has its places.
 pub opened-room : (r : List ℕ) → openingChecks r ≡ passes → tableShort (hoursIn r) (tableIn r) ≡ false
 unfolding tableIn
@@ -53,7 +48,7 @@ opened-room r opens =
     let w = opens-formed r opens in
     let a = map-up-length (coefficientIn r) 0 (P n) in
     let b = part-length r (headerSize + 3 * P n) (P n / 2) (omega (arith, w .sized)) in
-    room-enough n (tableIn r) (omega arith) (omega arith)
+    not-short n (tableIn r) (omega arith) (omega arith)
 
 -- Of a table only the places needed are written: the record of a table that a series has is that of the series.
 pub table-record : (n : ℕ) (s : List ℤ) (t : Table) → HasTable n s t → HasRecord n s (recordOf n t)
@@ -84,7 +79,7 @@ module _ (n : ℕ) (s : List ℤ) (series : Series n s) where
   made-room =
       let a = map-up-length (coefficient (levels n) n s) 0 (P n) in
       let b = map-up-length (codeOfPlace (levels n) n s) 0 (P n / 2) in
-      room-enough n T (omega arith) (omega arith)
+      not-short n T (omega arith) (omega arith)
 
   made-ok : soundTable (levels n) n T ≡ true
   made-ok = has-sound n s T series (made-has n s)

@@ -3,6 +3,7 @@
 use mathlib.Core.Path.{_≡_, refl, sym}
 use mathlib.Core.Bool.{true, false, _&&_, _||_}
 use mathlib.Core.Logic.{⊎-elim}
+use Prim.Native.Nat.{ℕ}
 use lib.Dec.{lit<}
 use lib.IntN.{ℤ, pos, negℤ}
 use lib.Signed.{leZ, _≤ℤ_}
@@ -29,6 +30,13 @@ pub record Halves (r left right : Range) : Type 0 where
   pub readings-left : Readings left
   pub readings-right : Readings right
 
+-- Both of two numbers are this mark.
+both-are : (mark : ℕ) (a b : ℤ) → bothAre mark a b ≡ true → (a ≡ pos mark) × (b ≡ pos mark)
+both-are mark a b h = (
+  isNumber-true mark a (and-left (isNumber mark a) (isNumber mark b) h),
+  isNumber-true mark b (and-right (isNumber mark a) (isNumber mark b) h),
+)
+
 -- The root values: the range they give is one of readings, and has them as its low and its high.
 pub record RootValues (a b : ℤ) : Type 0 where
   pub readings : Readings (rootRange a b)
@@ -52,10 +60,7 @@ root-gap = record { readings = tt; low = refl; high = refl }
 pub root-values : (a b : ℤ) → soundRootValues a b ≡ true → RootValues a b
 root-values a b h =
     ⊎-elim
-    (λ m.
-    let x = isNumber-true gapMark a (and-left (isGap a) (isGap b) m) in
-    let y = isNumber-true gapMark b (and-right (isGap a) (isGap b) m) in
-    rw (x, y) root-gap)
+    (λ m. let is = both-are gapMark a b m in rw (is .0, is .1) root-gap)
     (λ m.
     let f = and-left (isReading a && isReading b) (leZ a b) m in
     let x = between (negℤ (pos largestReading)) (pos largestReading) a (and-left (isReading a) (isReading b) f) in
@@ -113,34 +118,33 @@ module _ (a b : ℤ) (p : Readings (Held a b)) where
             high = rw (left-is, right-is) (omega (signed, sub-parts Lb Rb, leftHigh-parts b e, rightHigh-parts b e));
           }
 
-    held-details : soundDetails (Held a b) d e ≡ true → Details (Held a b) d e
-    held-details h =
-        ⊎-elim
-        (λ m. ⊎-elim
-        (λ f.
-        let x = isNumber-true leftMark d (and-left (isNumber leftMark d) (isNumber leftMark e) f) in
-        let y = isNumber-true leftMark e (and-right (isNumber leftMark d) (isNumber leftMark e) f) in
-        rw (x, y) left-alone)
-        (λ f.
-        let x = isNumber-true rightMark d (and-left (isNumber rightMark d) (isNumber rightMark e) f) in
-        let y = isNumber-true rightMark e (and-right (isNumber rightMark d) (isNumber rightMark e) f) in
-        rw (x, y) right-alone)
-        (or-cases (bothAre leftMark d e) (bothAre rightMark d e) m))
-        (λ m.
+    -- Both are details, and each half has low ≤ high.
+    two-details : (isDetail d && isDetail e && ordered (leftHalf (Held a b) d e) && ordered (rightHalf (Held a b) d e))
+        ≡ true → Details (Held a b) d e
+    two-details m =
         let L = ordered (leftHalf (Held a b) d e) in
         let R = ordered (rightHalf (Held a b) d e) in
         let three = and-left (isDetail d && isDetail e && L) R m in
         let two = and-left (isDetail d && isDetail e) L three in
         let u = between (negℤ (pos largestDetail)) (pos largestDetail) d (and-left (isDetail d) (isDetail e) two) .1 in
         two-halves u (rw (left-is u) at (and-right (isDetail d && isDetail e) L three))
-        (rw (right-is u) at (and-right (isDetail d && isDetail e && L) R m)))
+        (rw (right-is u) at (and-right (isDetail d && isDetail e && L) R m))
+
+    held-details : soundDetails (Held a b) d e ≡ true → Details (Held a b) d e
+    held-details h =
+        ⊎-elim
+        (λ m. ⊎-elim
+        (λ f. let is = both-are leftMark d e f in rw (is .0, is .1) left-alone)
+        (λ f. let is = both-are rightMark d e f in rw (is .0, is .1) right-alone)
+        (or-cases (bothAre leftMark d e) (bothAre rightMark d e) m))
+        two-details
         (or-cases (bothAre leftMark d e || bothAre rightMark d e) _ h)
 
 pub details : (r : Range) (d e : ℤ) → Readings r → soundDetails r d e ≡ true → Details r d e
 details Empty d e p h =
     record {
       halves = record { joined = refl; readings-left = tt; readings-right = tt };
-      low = sym (isNumber-true gapMark d (and-left (isNumber gapMark d) (isNumber gapMark e) h));
-      high = sym (isNumber-true gapMark e (and-right (isNumber gapMark d) (isNumber gapMark e) h));
+      low = sym (both-are gapMark d e h .0);
+      high = sym (both-are gapMark d e h .1);
     }
 details (Held a b) d e p h = held-details a b p d e h

@@ -20,9 +20,9 @@ hasLevel n j lent = not (badHours n || short lent (P n)) && leb (j + 2) (levels 
 -- Places 2·2^j to 4·2^j − 1; any other level, and the causes of 1 and 3, give a stretch of length 0. [level 1, 2]
 unfoldable pub levelStretch : (n j lent : ℕ) → Stretch
 levelStretch n j lent =
-    cond (hasLevel n j lent) (record { from = 2 * 2 ^ j; size = 2 * 2 ^ j }) (record { from = 0; size = 0 })
+    cond (hasLevel n j lent) (record { start = 2 * 2 ^ j; length = 2 * 2 ^ j }) (record { start = 0; length = 0 })
 
 abbrev pub levelPart : (n j : ℕ) → List ℤ → List ℤ
 levelPart n j coefficients =
-    let places = levelStretch n j (length coefficients) in
-    take (places .size) (drop (places .from) coefficients)
+    let stretch = levelStretch n j (length coefficients) in
+    take (stretch .length) (drop (stretch .start) coefficients)

@@ -1,13 +1,13 @@
 -- Each answer of reading the parts of an opened record: checks 3 and 4 in their order, and a sound table, unpacked into
 -- the first places of the buffers. Assumes nothing.
 use mathlib.Core.Path.{_≡_, sym, _∙_}
+use mathlib.Core.Bool.{Bool, true, false, _||_}
 use mathlib.Core.List.{List, _++_}
-use Prim.Native.Nat.{ℕ, _/_, _≤_, _<_}
+use Prim.Native.Nat.{ℕ, _/_, _≤_}
 use native.Mathlib.Omega.{arith}
 use lib.IntN.{ℤ}
 use lib.ListN.{length, take, drop}
 use lib.Seq.{take-length}
-use borrow.Author.Tests.{lt-ltb, le-ltb}
 use Rattle.words.specs.declared.NodeId.{NodeId}
 use Rattle.words.specs.declared.Refusal.{Refusal}
 use Rattle.words.specs.declared.Refusal.the-variants as refusal
@@ -15,8 +15,9 @@ use Rattle.words.specs.declared.Unpacking.{Unpacking}
 use Rattle.om3.specs.Series.{P}
 use Rattle.om3.specs.Table.{lent}
 use Rattle.om3.specs.Checks.{Check, refuses, inOrder}
-use Rattle.om3.specs.Refusals.{examineTable}
+use Rattle.om3.specs.Refusals.{short, tableShort, examineTable}
 use Rattle.om3.proofs.Examined.{then-passes}
+use Rattle.om3.proofs.Lent.{coefficients-there, codes-there}
 use Rattle.turning.specs.declared.Verdict.{Verdict}
 use Rattle.turning.specs.Turning.{checkOf}
 use Rattle.packing.specs.Packing.{unpacked}
@@ -34,39 +35,40 @@ module _ (n : ℕ) (bs ks : List ℕ) (cs : List ℤ) (ds : List ℕ) (t : Packe
   refused : (why : Refusal) → checks ≡ refuses why → PartsRead n bs ks cs ds cs ds (Unpacking.Refused why)
   refused why e = record { answer = rw e; coefficients = rw e; codes = rw e }
 
-  pub few-coefficients : length cs < length bs / 3
+  -- What the code asks of the buffers is check 3.
+  pub lent-short : (b : Bool) → b ≡ (short (length cs) (length bs / 3) || short (length ds) (length bs / 3 / 2))
+      → b ≡ tableShort n (lent cs ds)
+  lent-short b e = rw places at e
+
+  pub short-table : tableShort n (lent cs ds) ≡ true
       → PartsRead n bs ks cs ds cs ds (Unpacking.Refused refusal.ShortBuffer)
   unfolding inOrder
-  few-coefficients h = refused refusal.ShortBuffer (rw (lt-ltb (length cs) (P n) (rw places at h)))
+  short-table h = refused refusal.ShortBuffer (rw h)
 
-  module _ (wide : length bs / 3 ≤ length cs) where
-    pub few-codes : length ds < length ks → PartsRead n bs ks cs ds cs ds (Unpacking.Refused refusal.ShortBuffer)
+  -- Only the table itself is still to examine.
+  module _ (room : tableShort n (lent cs ds) ≡ false) where
+    pub coefficients-fit : length bs / 3 ≤ length cs
+    coefficients-fit = rw places (coefficients-there n (lent cs ds) room)
+
+    pub codes-fit : length ks ≤ length ds
+    codes-fit = rw (t .codes) (codes-there n (lent cs ds) room)
+
+    examined : checks ≡ examineTable n (lent (unpacked bs) ks)
     unfolding inOrder
-    few-codes h =
-        let w = le-ltb (length cs) (P n) (rw places at wide) in
-        refused refusal.ShortBuffer (rw (w, lt-ltb (length ds) (P n / 2) (rw (t .codes) at h)))
+    examined = rw room (then-passes (examineTable n (lent (unpacked bs) ks)))
 
-    -- Only the table itself is still to examine.
-    module _ (long : length ks ≤ length ds) where
-      examined : checks ≡ examineTable n (lent (unpacked bs) ks)
-      unfolding inOrder
-      examined =
-          let w = le-ltb (length cs) (P n) (rw places at wide) in
-          let k = le-ltb (length ds) (P n / 2) (rw (t .codes) at long) in
-          rw (w, k) (then-passes (examineTable n (lent (unpacked bs) ks)))
+    module _ (r : Verdict) (e : checkOf r ≡ examineTable n (lent (unpacked bs) ks)) where
+      pub unsound-refused : (i : NodeId) → r ≡ Verdict.Unsound i
+          → PartsRead n bs ks cs ds cs ds (Unpacking.Refused (refusal.Unsound i))
+      unsound-refused i g = refused (refusal.Unsound i) (examined ∙ sym (rw g at e))
 
-      module _ (r : Verdict) (e : checkOf r ≡ examineTable n (lent (unpacked bs) ks)) where
-        pub unsound-refused : (i : NodeId) → r ≡ Verdict.Unsound i
-            → PartsRead n bs ks cs ds cs ds (Unpacking.Refused (refusal.Unsound i))
-        unsound-refused i g = refused (refusal.Unsound i) (examined ∙ sym (rw g at e))
-
-        pub table-read : r ≡ Verdict.Sound → (cs′ : List ℤ) → cs′ ≡ unpacked bs → (ds′ : List ℕ)
-            → ds′ ≡ take (length ks) ks ++ drop (length ks) ds
-            → PartsRead n bs ks cs ds (cs′ ++ drop (length bs / 3) cs) ds′ (Unpacking.Hours n)
-        table-read g cs′ c ds′ d =
-            let taken = examined ∙ sym (rw g at e) in
-            record {
-              answer = rw taken;
-              coefficients = rw (taken, c, unpacked-length bs);
-              codes = rw (taken, d, take-length ks);
-            }
+      pub table-read : r ≡ Verdict.Sound → (cs′ : List ℤ) → cs′ ≡ unpacked bs → (ds′ : List ℕ)
+          → ds′ ≡ take (length ks) ks ++ drop (length ks) ds
+          → PartsRead n bs ks cs ds (cs′ ++ drop (length bs / 3) cs) ds′ (Unpacking.Hours n)
+      table-read g cs′ c ds′ d =
+          let taken = examined ∙ sym (rw g at e) in
+          record {
+            answer = rw taken;
+            coefficients = rw (taken, c, unpacked-length bs);
+            codes = rw (taken, d, take-length ks);
+          }

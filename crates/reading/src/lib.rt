@@ -152,10 +152,7 @@ fn read_parts(
         (now (coefficients .entry)) (now (codes .entry)) (now (coefficients .exit)) (now (codes .exit)) r ⌝ }
 {
     let places = packed.len() / words::COEFFICIENT_SIZE;
-    if coefficients.len() < places {
-        return Unpacking::Refused(Refusal::ShortBuffer);
-    }
-    if codes.len() < codes_in.len() {
+    if sizes::table_short(places, coefficients.len(), codes.len()) {
         return Unpacking::Refused(Refusal::ShortBuffer);
     }
     if let Verdict::Unsound(i) = examine(n, packed, codes_in) {

@@ -9,8 +9,8 @@ use told::records::ToldBytes;
 use told::records::ToldCoefficient;
 use told::records::ToldHours;
 use told::records::ToldRecord;
-use told::tables::Places;
 use told::tables::Told;
+use words::Stretch;
 use words::Timestamp;
 ghost use mathlib.Core.Path.{_≡_};
 ghost use lib.ListN.{length};
@@ -22,7 +22,6 @@ ghost use Rattle.om3.specs.Stopped.{stopped};
 ghost use Rattle.om3.specs.Finished.{finished};
 ghost use Rattle.om3.specs.Joined.{joined};
 ghost use Rattle.om3.specs.Days.{dayChange};
-ghost use Rattle.told.specs.Tables.{placesOf};
 ghost use Rattle.told.specs.Records.{openingTold, askingTold};
 ghost use Rattle.told.specs.Columns.{edgesTold, stoppedTold, answerTold, answerIn, finishedTold, changeTold};
 ghost use Rattle.sagivelume.specs.Boundary.{MakeTold, TurnBackTold, WriteTold, ReadTold};
@@ -57,10 +56,10 @@ pub extern "C" fn sagivelume_turn_back(
 
 // Where level j's details stand in the lent coefficients of a table of n hours; length 0 where there is no such level.
 #[no_mangle]
-pub extern "C" fn sagivelume_level(n: usize, j: usize, coefficients: &[i32]) -> Places
-    ensures { λ r. ⌜ r ≡ placesOf (levelStretch n j (length (now (coefficients .entry)))) ⌝ }
+pub extern "C" fn sagivelume_level(n: usize, j: usize, coefficients: &[i32]) -> Stretch
+    ensures { λ r. ⌜ r ≡ levelStretch n j (length (now (coefficients .entry))) ⌝ }
 {
-    told::tables::places_of(level::stretch(n, j, coefficients.len()))
+    level::stretch(n, j, coefficients.len())
 }
 
 // Writes the record of a table of n hours: needs P coefficients, P/2 codes and room for 7 + 3P + P/2 bytes. Refusals

@@ -1,8 +1,10 @@
-// How large a table and its record are.
+// How large a table and its record are, and whether a table is lent whole: checks 1 and 3.
 ghost use mathlib.Core.Path.{_≡_};
-ghost use Prim.Native.Nat.{_+_, _^_, _≤_};
+ghost use mathlib.Core.Bool.{_||_};
+ghost use Prim.Native.Nat.{_+_, _/_, _^_, _≤_};
 ghost use Rattle.words.specs.Constants.{largestLevel, largestHours};
 ghost use Rattle.om3.specs.Series.{badHours, P};
+ghost use Rattle.om3.specs.Refusals.{short};
 ghost use Rattle.om3.specs.Record.{lengthFor};
 
 // Check 1: whether n is 0 or over 16,384.
@@ -22,6 +24,13 @@ pub fn places(n: usize) -> usize
         p = p * 2;
     }
     p
+}
+
+// Check 3 of a table of p places: whether fewer coefficients or fewer codes are lent than it needs.
+pub fn table_short(p: usize, coefficients: usize, codes: usize) -> bool
+    ensures { λ r. ⌜ r ≡ (short coefficients p || short codes (p / 2)) ⌝ }
+{
+    coefficients < p || codes < p / 2
 }
 
 // 2^j, for a level j.

@@ -16,12 +16,13 @@ use Rattle.om3.specs.Table.{Table, coefficient, codeOfPlace, tableOf, HasTable,
 use Rattle.om3.specs.Down.{turnedBack}
 use Rattle.om3.specs.Checks.{passes}
 use Rattle.om3.specs.Sound.{soundTable}
-use Rattle.om3.specs.Refusals.{tableShort, Enough, makingChecks, turningBackChecks}
+use Rattle.om3.specs.Refusals.{tableShort, TableLent, Enough, makingChecks, turningBackChecks}
 use Rattle.om3.specs.Calls.{filled}
 use Rattle.om3.proofs.Filled.{filled-first, filled-room}
 use Rattle.om3.proofs.Lists.{map-up-length, take-room}
 use Rattle.om3.proofs.Examined.{examine-sound}
-use Rattle.om3.proofs.TableChecks.{decided, table-room, passed}
+use Rattle.om3.proofs.Lent.{table-room}
+use Rattle.om3.proofs.TableChecks.{decided, passed}
 use Rattle.om3.proofs.TurnedBack.{turned-length}
 use Rattle.om3.proofs.Demand2 as demand2
 use Rattle.om3.proofs.Making.{good-some, making-series}
@@ -36,7 +37,7 @@ module _ (n : ℕ) (cs : List ℤ) (ks : List ℕ) (out : List ℤ) where
 
   module _ (room : Enough n cs ks (length out) n) where
     abbrev few : (1 ≤ n) × (n ≤ largestHours)
-    few = good-some n (room .good)
+    few = good-some n (room .table .good)
 
     sound-passes : soundTable (levels n) n T ≡ true → turningBackChecks n T (length out) ≡ passes
     sound-passes s = decided n cs ks (length out) n room ∙ examine-sound (levels n) n T .1 s
@@ -45,7 +46,7 @@ module _ (n : ℕ) (cs : List ℤ) (ks : List ℕ) (out : List ℤ) where
       -- It is taken exactly if some series of n hours has the table ..
       pub taken-exactly : (r ≡ Taking.Taken) ↔ ((s : List ℤ) × Series n s × HasTable n s T)
       taken-exactly =
-          let exactly = demand2.sound-exactly n (few .0) (few .1) T (table-room n cs ks (length out) n room) in
+          let exactly = demand2.sound-exactly n (few .0) (few .1) T (table-room n cs ks (room .table)) in
           let passes-sound = examine-sound (levels n) n T .0 in (
             λ e. exactly .0 (passes-sound (passed n cs ks (length out) n (taken-passes _ (sym e ∙ done .answer)) .1)),
             λ h. rw (sound-passes (exactly .1 h)) at (done .answer),
@@ -108,13 +109,13 @@ module _ (n : ℕ) where
     pub turned-back-after : (out out′ : List ℤ) (r : Taking) → n ≤ length out → TurnedBack n cs′ ks′ out out′ r
         → (r ≡ Taking.Taken) × (out′ ≡ filled first out)
     turned-back-after out out′ r hours done =
-        let room : Enough n cs′ ks′ (length out) n =
+        let table : TableLent n cs′ ks′ =
         record {
           good = good-hours n (first-series .some) (first-series .most);
           coefficients = rw details (filled-room (tableOf l n first .coefficients) cs _ (details-length n first));
           codes = rw pairs (filled-room (tableOf l n first .codes) ks _ (pairs-length n first));
-          buffer = hours;
-        } in (
+        } in
+        let room : Enough n cs′ ks′ (length out) n = record { table = table; buffer = hours } in (
           taken-exactly n cs′ ks′ out room out′ r done .1 (first, first-series, has-table),
           writes-series n cs′ ks′ out room out′ r done first first-series has-table,
         )
@@ -151,7 +152,7 @@ module _ (n : ℕ) where
     room = passed n cs ks (length out) n turned-passes .0
 
     abbrev many : (1 ≤ n) × (n ≤ largestHours)
-    many = good-some n (room .good)
+    many = good-some n (room .table .good)
 
     is-sound : soundTable l n (lent cs ks) ≡ true
     is-sound = examine-sound l n (lent cs ks) .0 (passed n cs ks (length out) n turned-passes .1)
@@ -164,7 +165,7 @@ module _ (n : ℕ) where
 
     again-has : HasTable n again (lent cs ks)
     again-has =
-        demand2.turned-has n (many .0) (many .1) (lent cs ks) is-sound (table-room n cs ks (length out) n room)
+        demand2.turned-has n (many .0) (many .1) (lent cs ks) is-sound (table-room n cs ks (room .table))
 
     written : out′ ≡ filled again out
     written = rw turned-passes at (done .hours)
@@ -185,7 +186,7 @@ module _ (n : ℕ) where
       made-again : makingChecks n out′ (lent cs₁ ks₁) ≡ passes
       made-again =
           let size : n ≤ length out′ = rw written (filled-room again out n (turned-length l (lent cs ks) n)) in
-          making-decided n (room .good) out′ (lent cs₁ ks₁)
+          making-decided n (room .table .good) out′ (lent cs₁ ks₁)
           (rw (le-ltb (length out′) n size) room₁)
           ∙ readings-pass n out′ out-holds
 

@@ -49,8 +49,6 @@ use Rattle.told.specs.declared.columns.ToldRanges.{ToldRanges}
 use Rattle.told.specs.declared.columns.ToldAnswer.{ToldAnswer}
 use Rattle.told.specs.declared.columns.ToldFinished.{ToldFinished}
 use Rattle.told.specs.declared.columns.ToldChange.{ToldChange}
-use Rattle.told.specs.declared.tables.Places.{Places}
-use Rattle.told.specs.Tables.{placesOf}
 use Rattle.told.specs.Records.{openingTold, askingTold}
 use Rattle.told.specs.Columns.{edgesTold, stoppedTold, answerTold, answerIn, finishedTold, changeTold}
 use Rattle.sagivelume.specs.Boundary.{MakeTold, TurnBackTold, WriteTold, ReadTold}
@@ -65,7 +63,7 @@ pub record EachTold : Type 0 where
       → One (λ (o : List ℤ × List ℕ × Told). MakeTold n s cs ks (o .0) (o .1) (o .2))
   pub turn-back : (n : ℕ) (cs : List ℤ) (ks : List ℕ) (out : List ℤ)
       → One (λ (o : List ℤ × Told). TurnBackTold n cs ks out (o .0) (o .1))
-  pub level : (n j : ℕ) (cs : List ℤ) → One (λ (r : Places). r ≡ placesOf (levelStretch n j (length cs)))
+  pub level : (n j : ℕ) (cs : List ℤ) → One (λ (r : Stretch). r ≡ levelStretch n j (length cs))
   pub write-record : (n : ℕ) (cs : List ℤ) (ks out : List ℕ)
       → One (λ (o : List ℕ × ToldBytes). WriteTold n cs ks out (o .0) (o .1))
   pub read-record : (r : List ℕ) (cs : List ℤ) (ks : List ℕ)
@@ -153,7 +151,7 @@ each-told =
           (by-equation (a .made .codes) (b .made .codes)) (by-equation (a .answer) (b .answer));
       turn-back = λ n cs ks out x y a b.
           two (by-equation (a .turned .hours) (b .turned .hours)) (by-equation (a .answer) (b .answer));
-      level = λ n j cs. equal-once (placesOf (levelStretch n j (length cs)));
+      level = λ n j cs. equal-once (levelStretch n j (length cs));
       write-record = λ n cs ks out x y a b.
           two (by-equation (a .written .bytes) (b .written .bytes)) (by-equation (a .answer) (b .answer));
       read-record = λ r cs ks x y a b.

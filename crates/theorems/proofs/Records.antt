@@ -24,7 +24,8 @@ use Rattle.om3.specs.Record.{writingChecks, writingBy, openingChecks, readingCh
 use Rattle.om3.specs.Record.{openedRecord, askedView, askedRecord}
 use Rattle.om3.proofs.Making.{good-some}
 use Rattle.om3.proofs.Examined.{order-parts, first-absent, examine-sound}
-use Rattle.om3.proofs.TableChecks.{decided, table-room, passed}
+use Rattle.om3.proofs.Lent.{coefficients-there, codes-there, table-room}
+use Rattle.om3.proofs.TableChecks.{decided, passed}
 use Rattle.om3.proofs.Filled.{filled-first, filled-room}
 use Rattle.om3.proofs.Records.{record-size}
 use Rattle.om3.proofs.RecordsOpened.{opens-formed, asked-unpacked}
@@ -82,11 +83,11 @@ module _ (n : ℕ) (cs : List ℤ) (ks out out′ : List ℕ) (b : ℕ)
   both-right = passed n cs ks (length out) (recordSize n) (written-checks .0)
 
   room-right : tableShort n T ≡ false
-  room-right = table-room n cs ks (length out) (recordSize n) (both-right .0)
+  room-right = table-room n cs ks (both-right .0 .table)
 
   some-series : (s : List ℤ) × Series n s × HasTable n s T
   some-series =
-      let few = good-some n (both-right .0 .good) in
+      let few = good-some n (both-right .0 .table .good) in
       demand2.sound-exactly n (few .0) (few .1) T room-right .0 (examine-sound (levels n) n T .0 (both-right .1))
 
   -- The bytes written are its record.
@@ -141,7 +142,7 @@ module _ (r : List ℕ) (cs : List ℤ) (ks : List ℕ) (cs′ : List ℤ) (ks�
       let room = opened-room r opens in
       let a = rw (sym (rw read-checks at (done .coefficients))) at (filled-room (t .coefficients) cs _ refl) in
       let b = rw (sym (rw read-checks at (done .codes))) at (filled-room (t .codes) ks _ refl) in
-      (omega (arith, a, demand2.coefficients-there k t room), omega (arith, b, demand2.codes-there k t room))
+      (omega (arith, a, coefficients-there k t room), omega (arith, b, codes-there k t room))
 
   -- Opening it answers n and P ..
   opened-read : openedRecord r ≡ Opening.Record n (P n)
@@ -156,7 +157,7 @@ module _ (r : List ℕ) (cs : List ℤ) (ks : List ℕ) (cs′ : List ℤ) (ks�
       let size = opens-formed r opens .sized in
       let reached : headerSize + 3 * p + 3 ≤ length r = omega (arith, size) in
       let there : p < length (tableIn r .coefficients) =
-      omega (arith, demand2.coefficients-there (hoursIn r) (tableIn r) (opened-room r opens)) in
+      omega (arith, coefficients-there (hoursIn r) (tableIn r) (opened-room r opens)) in
       let e = rw read-checks at (done .coefficients) in
       rw (stated-hours, lt-leb (P (hoursIn r)) p h′, le-ltb (length r) (headerSize + 3 * p + 3) reached, e)
       (ap Asking.Coefficient
@@ -187,9 +188,7 @@ module _ (r : List ℕ) (cs : List ℤ) (ks : List ℕ) (cs′ : List ℤ) (ks�
         let size = w .sized in
         let room : Enough k cs′ ks′ (length out) (recordSize k) =
         record {
-          good = w .timed;
-          coefficients = left-room .0;
-          codes = left-room .1;
+          table = record { good = w .timed; coefficients = left-room .0; codes = left-room .1 };
           buffer = omega arith;
         } in
         decided k cs′ ks′ (length out) (recordSize k) room

@@ -17,7 +17,7 @@ use Rattle.om3.specs.Series.{badHours, levels, P}
 use Rattle.om3.specs.Nodes.{root}
 use Rattle.om3.specs.Checks.{Check, passes, refuses}
 use Rattle.om3.specs.Sound.{soundRootValues, nodesBelow, soundTable, soundNode}
-use Rattle.om3.specs.Refusals.{Enough, examineTable, turningBackChecks}
+use Rattle.om3.specs.Refusals.{tableShort, Enough, examineTable, turningBackChecks}
 use Rattle.om3.proofs.Making.{good-some}
 use Rattle.om3.proofs.Tests.{and-right}
 use Rattle.om3.proofs.Levels.{n≤P}
@@ -44,20 +44,15 @@ module _ (n : ℕ) (cs : List ℤ) (ks : List ℕ) (out : List ℤ) where
   pub bad-hours : badHours n ≡ true → TurnedBack n cs ks out out (Taking.Refused refusal.BadHours)
   bad-hours b = refused refusal.BadHours (checked.bad-hours n cs ks (length out) n b)
 
-  module _ (good : badHours n ≡ false) (p : ℕ) (e : p ≡ P n) where
+  module _ (good : badHours n ≡ false) where
     abbrev Short : Type 0
     Short = TurnedBack n cs ks out out (Taking.Refused refusal.ShortBuffer)
 
-    pub few-coefficients : length cs < p → Short
-    few-coefficients h =
-        refused refusal.ShortBuffer (checked.few-coefficients n cs ks (length out) n good p e h)
+    pub short-table : tableShort n (lent cs ks) ≡ true → Short
+    short-table h = refused refusal.ShortBuffer (checked.short-table n cs ks (length out) n good h)
 
-    pub few-codes : p ≤ length cs → length ks < p / 2 → Short
-    few-codes w h = refused refusal.ShortBuffer (checked.few-codes n cs ks (length out) n good p e w h)
-
-    pub few-hours : p ≤ length cs → p / 2 ≤ length ks → length out < n → Short
-    few-hours w k h =
-        refused refusal.ShortBuffer (checked.short-buffer n cs ks (length out) n good p e w k h)
+    pub few-hours : tableShort n (lent cs ks) ≡ false → length out < n → Short
+    few-hours room h = refused refusal.ShortBuffer (checked.short-buffer n cs ks (length out) n good room h)
 
   -- Only the table itself is still to examine.
   module _ (h : Enough n cs ks (length out) n) where
@@ -88,7 +83,7 @@ module _ (n : ℕ) (cs : List ℤ) (ks : List ℕ) (out : List ℤ) where
           let z : l - 0 ≡ l = omega arith in
           let at = rw (← pe) at (root-located l) in
           let w = rw z at (W .below l n root at (root-reached n cs ks range q) nodes-sound) in
-          let most = n≤P n (good-some n (h .good) .1) in
+          let most = n≤P n (good-some n (h .table .good) .1) in
           let f = w ∙ all-written l (lent cs ks) n (take n out) most (length-take-le n out (h .buffer)) in
           record {
             answer = rw (examined ∙ taken);

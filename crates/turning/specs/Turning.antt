@@ -1,6 +1,5 @@
 -- What examining and turning back promise. Cited by the contracts of this crate and of the boundary. Assumes nothing.
 --
---   TableLent n cs ks     n is at most 16,384, and both buffers are long enough
 --   checkOf r             what a verdict says, as a check
 --   examineNodes          the examination of a list of nodes
 --   pairAt n ks f r       the hours of the pair at hours f and f + 1, or that it is unsound
@@ -15,14 +14,13 @@ use mathlib.Core.List.{List, map}
 use Prim.Native.Nat.{ℕ, zero, suc, _+_, _-_, _/_, _≤_, _<_}
 use lib.IntN.{ℤ}
 use lib.ListN.{length, getD, set}
-use Rattle.words.specs.Constants.{largestHours}
 use Rattle.words.specs.Said.{lowOf}
 use Rattle.words.specs.declared.NodeId.{NodeId}
 use Rattle.words.specs.declared.Range.{Range}
 use Rattle.words.specs.declared.Refusal.the-variants as refusal
 use Rattle.words.specs.declared.Taking.{Taking}
 use Rattle.om3.specs.Lists.{every}
-use Rattle.om3.specs.Series.{levels, P, hour}
+use Rattle.om3.specs.Series.{levels, hour}
 use Rattle.om3.specs.Nodes.{Node, number, left, right, Located}
 use Rattle.om3.specs.Table.{Table, lent}
 use Rattle.om3.specs.Down.{firstOfPair, secondOfPair, reached, turnedBack}
@@ -32,11 +30,6 @@ use Rattle.om3.specs.Refusals.{turningBackChecks}
 use Rattle.om3.specs.Calls.{takingBy, writtenBy}
 use Rattle.node.specs.declared.Halves.{Halves}
 use Rattle.turning.specs.declared.Verdict.{Verdict}
-
-pub record TableLent (n : ℕ) (cs : List ℤ) (ks : List ℕ) : Type 0 where
-  pub most : n ≤ largestHours
-  pub coefficients : P n ≤ length cs
-  pub codes : P n / 2 ≤ length ks
 
 -- What a verdict says, as a check. [refusals 4]
 abbrev pub checkOf : Verdict → Check

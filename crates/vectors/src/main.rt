@@ -32,8 +32,8 @@ fn show_turn_back(n: usize, coefficients: &[i32], codes: &[u8], hours: &mut [i32
 
 // Finds a level and writes the answer.
 fn show_level(n: usize, j: usize, coefficients: &[i32]) {
-    let places = sagivelume::sagivelume_level(n, j, coefficients);
-    lines::print_head(places.start, places.length);
+    let stretch = sagivelume::sagivelume_level(n, j, coefficients);
+    lines::print_head(stretch.start, stretch.length);
     lines::print_end();
 }
 

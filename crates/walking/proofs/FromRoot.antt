@@ -20,7 +20,7 @@ use Rattle.om3.proofs.Located.{root-located}
 use Rattle.om3.proofs.BelowOpened.{visited-root}
 use Rattle.node.specs.declared.Root.{Root}
 use Rattle.node.specs.Steps.{rootOf}
-use Rattle.turning.specs.Turning.{TableLent}
+use Rattle.om3.specs.Refusals.{TableLent}
 use Rattle.turning.proofs.Answers.{Rooted, rooted, not-rooted}
 use Rattle.turning.proofs.AtRoot.{root-readings, root-reached}
 use Rattle.walking.specs.Nodes.{At, Below}

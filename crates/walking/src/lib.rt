@@ -14,7 +14,7 @@ use words::Timestamp;
 ghost use mathlib.Core.Path.{_≡_};
 ghost use Prim.Native.Nat.{_+_, _*_, _≤_};
 ghost use lib.ListN.{length};
-ghost use Rattle.turning.specs.Turning.{TableLent};
+ghost use Rattle.om3.specs.Refusals.{TableLent};
 ghost use Rattle.walking.specs.Nodes.{Below};
 ghost use Rattle.walking.specs.Walking.{Steps, SteppedFrom, WalkedFrom, TableWalked};
 ghost use Rattle.walking.specs.Narrowing.{NarrowedFrom};

@@ -102,4 +102,4 @@ module _ (n : ℕ) (cs : List ℤ) (ks old : List ℕ) (ready : Ready n cs ks (l
         let all = take-all (P n) cs (omega (arith, ready .coefficients)) in
         let codes = take-all (P n / 2) ks (omega (arith, ready .codes)) in
         rw (g, coefficients-put)
-        (filled-tail (header ++ flatMap threeBytes cs) old ks at k fits ∙ rw (stated-right, all, codes))
+        (filled-tail (header ++ flatMap threeBytes cs) old ks at k ∙ rw (stated-right, all, codes))

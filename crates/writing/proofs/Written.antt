@@ -15,7 +15,7 @@ use Rattle.words.specs.declared.Writing.{Writing}
 use Rattle.om3.specs.Series.{badHours, levels, P}
 use Rattle.om3.specs.Table.{lent}
 use Rattle.om3.specs.Checks.{Check, passes, refuses}
-use Rattle.om3.specs.Refusals.{Enough, examineTable}
+use Rattle.om3.specs.Refusals.{tableShort, Enough, examineTable}
 use Rattle.om3.specs.Calls.{filled}
 use Rattle.om3.specs.Record.{lengthFor, recordSize, recordOf, writingChecks}
 use Rattle.om3.proofs.Making.{good-some}
@@ -39,20 +39,16 @@ module _ (n : ℕ) (cs : List ℤ) (ks out : List ℕ) where
   pub bad-hours : badHours n ≡ true → RecordWritten n cs ks out out (Writing.Refused refusal.BadHours)
   bad-hours b = refused refusal.BadHours (checked.bad-hours n cs ks (length out) (recordSize n) b)
 
-  module _ (good : badHours n ≡ false) (p : ℕ) (e : p ≡ P n) where
+  module _ (good : badHours n ≡ false) where
     abbrev Short : Type 0
     Short = RecordWritten n cs ks out out (Writing.Refused refusal.ShortBuffer)
 
-    pub few-coefficients : length cs < p → Short
-    few-coefficients h =
-        refused refusal.ShortBuffer (checked.few-coefficients n cs ks (length out) (recordSize n) good p e h)
+    pub short-table : tableShort n (lent cs ks) ≡ true → Short
+    short-table h = refused refusal.ShortBuffer (checked.short-table n cs ks (length out) (recordSize n) good h)
 
-    pub few-codes : p ≤ length cs → length ks < p / 2 → Short
-    few-codes w h = refused refusal.ShortBuffer (checked.few-codes n cs ks (length out) (recordSize n) good p e w h)
-
-    pub few-bytes : p ≤ length cs → p / 2 ≤ length ks → length out < recordSize n → Short
-    few-bytes w k h =
-        refused refusal.ShortBuffer (checked.short-buffer n cs ks (length out) (recordSize n) good p e w k h)
+    pub few-bytes : tableShort n (lent cs ks) ≡ false → length out < recordSize n → Short
+    few-bytes room h =
+        refused refusal.ShortBuffer (checked.short-buffer n cs ks (length out) (recordSize n) good room h)
 
   -- Only the table itself is still to examine.
   module _ (h : Enough n cs ks (length out) (recordSize n)) where
@@ -70,7 +66,7 @@ module _ (n : ℕ) (cs : List ℤ) (ks out : List ℕ) where
 
       first-threes : EachInThree (take (P n) cs)
       first-threes q b =
-          let b′ : q < P n = omega (arith, length-take-le (P n) cs (h .coefficients)) in
+          let b′ : q < P n = omega (arith, length-take-le (P n) cs (h .table .coefficients)) in
           let sound = examine-sound (levels n) n (lent cs ks) .0 taken in
           rw (getD-take (P n) cs q (pos 0) b′) (sound-threes (levels n) n (lent cs ks) (levels-some n) sound q b′)
 
@@ -78,10 +74,10 @@ module _ (n : ℕ) (cs : List ℤ) (ks out : List ℕ) where
       ready =
           rw pe
           (record {
-            most = good-some n (h .good) .1;
-            coefficients = length-take-le (P n) cs (h .coefficients);
+            most = good-some n (h .table .good) .1;
+            coefficients = length-take-le (P n) cs (h .table .coefficients);
             threes = first-threes;
-            codes = length-take-le (P n / 2) ks (h .codes);
+            codes = length-take-le (P n / 2) ks (h .table .codes);
             room = h .buffer;
           })
 

@@ -45,11 +45,7 @@ pub fn write_record(n: usize, coefficients: &[i32], codes: &[u8], bytes: &mut [u
         return Writing::Refused(Refusal::BadHours);
     }
     let places = sizes::places(n);
-    if coefficients.len() < places {
-        return Writing::Refused(Refusal::ShortBuffer);
-    }
-    let half = places / 2;
-    if codes.len() < half {
+    if sizes::table_short(places, coefficients.len(), codes.len()) {
         return Writing::Refused(Refusal::ShortBuffer);
     }
     let size = sizes::record_size(places);
@@ -59,6 +55,6 @@ pub fn write_record(n: usize, coefficients: &[i32], codes: &[u8], bytes: &mut [u
     if let Verdict::Unsound(i) = turning::examine(n, coefficients, codes) {
         return Writing::Refused(Refusal::Unsound(i));
     }
-    put_record(n, &coefficients[..places], &codes[..half], bytes);
+    put_record(n, &coefficients[..places], &codes[..places / 2], bytes);
     Writing::Bytes(size)
 }

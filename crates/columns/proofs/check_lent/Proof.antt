@@ -24,27 +24,25 @@ returns c =
 places-requires : tie.Need-places-requires
 places-requires c κs = good-some _ (good c) .1
 
+table-short-requires : tie.Need-table-short-requires
+table-short-requires c κs = search needs
+
 returns-2 : tie.Need-returns-2
 returns-2 c =
-    let c2 = c .before .before in
-    let a = c2 .before .before .before .args in
-    laws.few-coefficients (a .n) (a .coefficients .now) (a .codes .now) (good c2) _ (c .before .places .ensures)
-    (c .if2 .taken)
+    let found = c .before in
+    let checked = found .before .before in
+    let a = checked .before .before .before .args in
+    let is-short = rw (found .before .places .ensures) at (sym (found .table-short .ensures) ∙ c .if2 .taken) in
+    laws.short-table (a .n) (a .coefficients .now) (a .codes .now) (good checked) is-short
 
 returns-3 : tie.Need-returns-3
 returns-3 c =
-    let c2 = c .before .before in
-    let a = c2 .before .before .before .before .args in
-    laws.few-codes (a .n) (a .coefficients .now) (a .codes .now) (good (c2 .before)) _ (c2 .places .ensures)
-    (c .before .if2 .left) (c .if3 .taken)
-
-returns-4 : tie.Need-returns-4
-returns-4 c =
-    let c2 = c .before .before in
-    let a = c2 .before .before .before .before .args in
-    laws.enough (a .n) (a .coefficients .now) (a .codes .now) (good (c2 .before)) _ (c2 .places .ensures)
-    (c .before .if2 .left) (c .if3 .left)
+    let found = c .before in
+    let checked = found .before .before in
+    let a = checked .before .before .before .args in
+    let not-short = rw (found .before .places .ensures) at (sym (found .table-short .ensures) ∙ c .if2 .left) in
+    laws.enough (a .n) (a .coefficients .now) (a .codes .now) (good checked) not-short
 
 pub check-lent-spec : {M : Type 1} → statement M
 check-lent-spec =
-    tie.close (tie.spec bad-hours-requires returns places-requires returns-2 returns-3 returns-4)
+    tie.close (tie.spec bad-hours-requires returns places-requires table-short-requires returns-2 returns-3)

@@ -6,7 +6,8 @@ use borrow.Author.Needs.{needs}
 use Rattle.words.specs.Constants.{dayHours}
 use Rattle.om3.specs.Table.{lent}
 use Rattle.om3.specs.Checks.{passes}
-use Rattle.turning.specs.Turning.{TableLent}
+use Rattle.om3.specs.Refusals.{TableLent}
+use Rattle.om3.proofs.Making.{good-some}
 use Rattle.columns.specs.Drawing.{lentChecks}
 use Rattle.columns.proofs.Checking as checking
 use Rattle.columns.proofs.Calls as laws
@@ -44,7 +45,7 @@ returns-2 : tie.Need-returns-2
 returns-2 c =
     let told = c .before in
     let a = told .before .before .before .before .args in
-    let late : a .n ≤ dayHours * a .d = omega (arith, c .if1 .taken, table told .most) in
+    let late : a .n ≤ dayHours * a .d = omega (arith, c .if1 .taken, good-some (a .n) (table told .good) .1) in
     laws.day-late _ _ _ _ (passed told) late
 
 mul-if2 : tie.Need-mul-if2
@@ -56,7 +57,7 @@ returns-3 c =
     laws.day-late _ _ _ _ (passed told) (c .if2 .taken)
 
 hours-of-requires : tie.Need-hours-of-requires
-hours-of-requires c κs = (c .if2 .left, table (c .before .before) .most)
+hours-of-requires c κs = (c .if2 .left, good-some _ (table (c .before .before) .good) .1)
 
 finished-over-requires : tie.Need-finished-over-requires
 finished-over-requires c κs = table (c .before .before .before)

@@ -6,6 +6,7 @@ use native.Mathlib.Omega.{arith}
 use lib.Pow.{pow-pos}
 use borrow.Author.Needs.{needs}
 use Rattle.om3.specs.Series.{levels, P}
+use Rattle.om3.proofs.Making.{good-some}
 use Rattle.columns.proofs.Depths as depths
 use Rattle.columns.proofs.Stopping as laws
 use Rattle.columns.proofs.stopped_at.Statement.{statement}
@@ -28,7 +29,7 @@ returns : tie.Need-returns
 returns c = laws.too-deep _ _ _ _ _ (depths.over-all _ _ (c .if1 .taken))
 
 places-requires : tie.Need-places-requires
-places-requires c κs = search needs
+places-requires c κs = good-some _ (c .before .before .pre .good) .1
 
 power-requires : tie.Need-power-requires
 power-requires c κs = search needs

@@ -8,8 +8,8 @@ use Rattle.level.proofs.Stretches.{part-fits, part-is}
 stretch-requires : tie.Need-stretch-requires
 stretch-requires c κs = search needs
 
-add-upto : tie.Need-add-upto
-add-upto c =
+add-end : tie.Need-add-end
+add-end c =
     let c2 = c .before .before in
     omega (arith, part-fits _ _ (c2 .args .coefficients .now) _ (c .before .stretch .ensures), c2 .good)
 
@@ -35,7 +35,7 @@ level-spec =
     tie.close
     (tie.spec
     stretch-requires
-    add-upto
+    add-end
     mul-result
     sub-result
     part-result-start

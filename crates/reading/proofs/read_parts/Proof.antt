@@ -1,20 +1,50 @@
 -- `read_parts` makes checks 3 and 4 in their order, each of which refuses with nothing written, and then unpacks the
 -- coefficients and copies the codes of a sound table. Assumes nothing.
-use mathlib.Core.Path.{sym}
-use native.Mathlib.Omega.{arith}
+use mathlib.Core.Path.{_≡_, sym, _∙_}
+use mathlib.Core.Bool.{false}
+use Prim.Native.Nat.{_/_, _≤_}
+use lib.ListN.{length}
 use lib.Seq.{length-take-le}
 use borrow.Author.Needs.{needs}
+use Rattle.om3.specs.Table.{lent}
+use Rattle.om3.specs.Refusals.{tableShort}
 use Rattle.reading.proofs.ReadingParts as laws
 use Rattle.reading.proofs.read_parts.Statement.{statement}
 use Rattle.reading.proofs.read_parts.Tie as tie
 
-returns : tie.Need-returns
-returns c = laws.few-coefficients _ _ _ _ _ (c .before .before .before .before .pre) (c .if1 .taken)
+-- What check 3 found of the buffers.
+table-found : (c : tie.After-table-short) →
+    (let a = c .before .before .before .before .args in
+    c .table-short .result ≡ tableShort (a .n) (lent (a .coefficients .now) (a .codes .now)))
+table-found c =
+    let start = c .before .before .before .before in
+    let a = start .args in
+    laws.lent-short (a .n) (a .packed .now) (a .codes-in .now) (a .coefficients .now) (a .codes .now) (start .pre)
+    (c .table-short .result) (c .table-short .ensures)
 
-returns-2 : tie.Need-returns-2
-returns-2 c =
+-- Check 3 has passed.
+room : (c : tie.Else1) →
+    (let a = c .before .before .before .before .before .args in
+    tableShort (a .n) (lent (a .coefficients .now) (a .codes .now)) ≡ false)
+room c = sym (table-found (c .before)) ∙ c .if1 .left
+
+table-short-requires : tie.Need-table-short-requires
+table-short-requires c κs = search needs
+
+-- So both buffers have room for what is unpacked.
+coefficients-fit : (c : tie.Else1) →
+    (let a = c .before .before .before .before .before .args in
+    length (a .packed .now) / 3 ≤ length (a .coefficients .now))
+coefficients-fit c =
     let start = c .before .before .before .before .before in
-    laws.few-codes _ _ _ _ _ (start .pre) (c .before .if1 .left) (omega (arith, c .if2 .taken))
+    let a = start .args in
+    laws.coefficients-fit (a .n) (a .packed .now) (a .codes-in .now) (a .coefficients .now) (a .codes .now) (start .pre)
+    (room c)
+
+returns : tie.Need-returns
+returns c =
+    let start = c .before .before .before .before .before in
+    laws.short-table _ _ _ _ _ (start .pre) (sym (table-found (c .before)) ∙ c .if1 .taken)
 
 examine-requires : tie.Need-examine-requires
 examine-requires c κs = search needs
@@ -22,32 +52,36 @@ examine-requires c κs = search needs
 enum-known-i : tie.Need-enum-known-i
 enum-known-i c = search needs
 
-returns-3 : tie.Need-returns-3
-returns-3 c =
-    let c3 = c .before .before .before in
-    let c5 = c3 .before .before in
-    let start = c5 .before .before .before .before in
-    laws.unsound-refused _ _ _ _ _ (start .pre) (c5 .if1 .left) (c3 .before .if2 .left) _ (c3 .examine .ensures) _
+returns-2 : tie.Need-returns-2
+returns-2 c =
+    let examined = c .before .before .before in
+    let start = examined .before .before .before .before .before .before in
+    laws.unsound-refused _ _ _ _ _ (start .pre) (room (examined .before)) _ (examined .examine .ensures) _
     (c .before .i .given .1)
 
 enum-told : tie.Need-enum-told
 enum-told c = search needs
 
 slice-relend-prefix-unpack : tie.Need-slice-relend-prefix-unpack
-slice-relend-prefix-unpack c = search needs
+slice-relend-prefix-unpack c = coefficients-fit (c .before .before .before)
 
 slice-aggregate-unpack : tie.Need-slice-aggregate-unpack
 slice-aggregate-unpack c =
-    let c5 = c .before .before .before .before .before in
-    sym (length-take-le _ _ (c5 .if1 .left))
+    let passed = c .before .before .before .before in
+    sym (length-take-le _ _ (coefficients-fit passed))
 
 unpack-requires : tie.Need-unpack-requires
 unpack-requires c κs =
-    let c5 = c .before .before .before .before .before in
-    length-take-le _ _ (c5 .if1 .left)
+    let passed = c .before .before .before .before in
+    length-take-le _ _ (coefficients-fit passed)
 
 copy-requires : tie.Need-copy-requires
-copy-requires c κs = search needs
+copy-requires c κs =
+    let passed = c .before .before .before .before .before .before .before in
+    let start = passed .before .before .before .before .before in
+    let a = start .args in
+    laws.codes-fit (a .n) (a .packed .now) (a .codes-in .now) (a .coefficients .now) (a .codes .now) (start .pre)
+    (room passed)
 
 same-length : tie.Need-same-length
 same-length c = search needs
@@ -55,25 +89,24 @@ same-length c = search needs
 same-length-2 : tie.Need-same-length-2
 same-length-2 c = search needs
 
-returns-4 : tie.Need-returns-4
-returns-4 c =
-    let c5 = c .before .before .before .before .before in
-    let c7 = c5 .before .before in
-    let c9 = c7 .before .before in
-    let c11 = c9 .before .before in
-    let start = c11 .before .before .before .before in
-    laws.table-read _ _ _ _ _ (start .pre) (c11 .if1 .left) (c9 .before .if2 .left) _ (c9 .examine .ensures)
-    (c7 .enum-told .given .1) _ (c5 .unpack .ensures) _ (c .before .before .copy .ensures .1)
+returns-3 : tie.Need-returns-3
+returns-3 c =
+    let unpacked = c .before .before .before .before .before in
+    let told = unpacked .before .before in
+    let examined = told .before .before in
+    let start = examined .before .before .before .before .before .before in
+    laws.table-read _ _ _ _ _ (start .pre) (room (examined .before)) _ (examined .examine .ensures)
+    (told .enum-told .given .1) _ (unpacked .unpack .ensures) _ (c .before .before .copy .ensures .1)
 
 pub read-parts-spec : {M : Type 1} → statement M
 read-parts-spec =
     tie.close
     (tie.spec
+    table-short-requires
     returns
-    returns-2
     examine-requires
     enum-known-i
-    returns-3
+    returns-2
     enum-told
     slice-relend-prefix-unpack
     slice-aggregate-unpack
@@ -81,4 +114,4 @@ read-parts-spec =
     copy-requires
     same-length
     same-length-2
-    returns-4)
+    returns-3)

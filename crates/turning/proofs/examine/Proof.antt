@@ -3,6 +3,7 @@ use mathlib.Core.Path.{refl}
 use native.Mathlib.Omega.{arith}
 use borrow.Author.Needs.{needs}
 use Rattle.om3.proofs.Levels.{2≤P}
+use Rattle.om3.proofs.Making.{good-some}
 use Rattle.turning.proofs.AtRoot as laws
 use Rattle.turning.proofs.examine.Statement.{statement}
 use Rattle.turning.proofs.examine.Tie as tie
@@ -34,7 +35,9 @@ returns c =
     laws.root-unsound _ _ _ r
 
 places-requires : tie.Need-places-requires
-places-requires c κs = search needs
+places-requires c κs =
+    let c4 = c .before .before .before in
+    good-some _ (c4 .before .before .before .before .pre .good) .1
 
 examine-below-requires : tie.Need-examine-below-requires
 examine-below-requires c κs =

@@ -11,7 +11,8 @@ use borrow.Author.Needs.{needs}
 use Rattle.om3.proofs.Making.{good-some}
 use Rattle.om3.proofs.Levels.{2≤P, P-even}
 use Rattle.om3.specs.Series.{badHours}
-use Rattle.om3.specs.Refusals.{Enough}
+use Rattle.om3.specs.Table.{lent}
+use Rattle.om3.specs.Refusals.{tableShort, Enough}
 use Rattle.om3.proofs.TableChecks.{enough}
 use Rattle.node.specs.declared.Root.{Root}
 use Rattle.node.specs.Steps.{rootOf}
@@ -24,14 +25,19 @@ use Rattle.turning.proofs.turn_back.Tie as tie
 good : (c : tie.Else1) → badHours (c .before .before .before .args .n) ≡ false
 good c = sym (c .before .bad-hours .ensures) ∙ c .if1 .left
 
+-- What check 3 found of the table.
+table-found : (c : tie.After-table-short) →
+    (let a = c .before .before .before .before .before .args in
+    c .table-short .result ≡ tableShort (a .n) (lent (a .coefficients .now) (a .codes .now)))
+table-found c = rw (c .before .places .ensures) at (c .table-short .ensures)
+
 -- Checks 1 and 3 have passed.
-fits : (c : tie.Else4) →
+fits : (c : tie.Else3) →
     (let a = c .before .before .before .before .before .before .before .args in
     Enough (a .n) (a .coefficients .now) (a .codes .now) (length (a .hours .now)) (a .n))
 fits c =
-    let c3 = c .before .before .before in
-    enough _ _ _ _ _ (good (c3 .before)) _ (c3 .places .ensures)
-    (c .before .before .if2 .left) (c .before .if3 .left) (c .if4 .left)
+    let found = c .before .before in
+    enough _ _ _ _ _ (good (found .before .before)) (sym (table-found found) ∙ c .before .if2 .left) (c .if3 .left)
 
 -- What node 1's range is told to be, for the root values as they stand in the coefficients.
 root-told : (c : tie.After-root-range) {x : Root} → c .root-range .result ≡ x →
@@ -53,31 +59,28 @@ returns c = laws.bad-hours _ _ _ _ (sym (c .before .bad-hours .ensures) ∙ c .i
 places-requires : tie.Need-places-requires
 places-requires c κs = good-some _ (good c) .1
 
+table-short-requires : tie.Need-table-short-requires
+table-short-requires c κs = search needs
+
 returns-2 : tie.Need-returns-2
 returns-2 c =
-    laws.few-coefficients _ _ _ _ (good (c .before .before)) _ (c .before .places .ensures) (c .if2 .taken)
+    let found = c .before in
+    laws.short-table _ _ _ _ (good (found .before .before)) (sym (table-found found) ∙ c .if2 .taken)
 
 returns-3 : tie.Need-returns-3
 returns-3 c =
-    let c2 = c .before .before in
-    laws.few-codes _ _ _ _ (good (c2 .before)) _ (c2 .places .ensures) (c .before .if2 .left) (c .if3 .taken)
-
-returns-4 : tie.Need-returns-4
-returns-4 c =
-    let c3 = c .before .before .before in
-    laws.few-hours _ _ _ _ (good (c3 .before)) _ (c3 .places .ensures)
-    (c .before .before .if2 .left) (c .before .if3 .left) (c .if4 .taken)
+    let found = c .before .before in
+    laws.few-hours _ _ _ _ (good (found .before .before)) (sym (table-found found) ∙ c .before .if2 .left)
+    (c .if3 .taken)
 
 examine-requires : tie.Need-examine-requires
-examine-requires c κs =
-    let f = fits c in
-    record { most = good-some _ (f .good) .1; coefficients = f .coefficients; codes = f .codes }
+examine-requires c κs = fits c .table
 
 enum-known-i : tie.Need-enum-known-i
 enum-known-i c = search needs
 
-returns-5 : tie.Need-returns-5
-returns-5 c =
+returns-4 : tie.Need-returns-4
+returns-4 c =
     let c3 = c .before .before .before in
     laws.unsound-refused _ _ _ _ (fits (c3 .before)) _ (c3 .examine .ensures) _ (c .before .i .given .1)
 
@@ -86,20 +89,16 @@ enum-told c = search needs
 
 shared-slice-copy-out-root-range : tie.Need-shared-slice-copy-out-root-range
 shared-slice-copy-out-root-range c =
-    let c5 = c .before .before .before .before .before in
-    let a = c5 .before .before .before .before .before .args in
-    let z : 0 < length (a .coefficients .now) =
-    omega (arith, 2≤P (a .n), c5 .if2 .left, c5 .before .places .ensures)
-    in
+    let passed = c .before .before .before in
+    let a = passed .before .before .before .before .before .before .before .args in
+    let z : 0 < length (a .coefficients .now) = omega (arith, 2≤P (a .n), fits passed .table .coefficients) in
     z
 
 shared-slice-copy-out-root-range-2 : tie.Need-shared-slice-copy-out-root-range-2
 shared-slice-copy-out-root-range-2 c =
-    let c6 = c .before .before .before .before .before .before in
-    let a = c6 .before .before .before .before .before .args in
-    let z : 1 < length (a .coefficients .now) =
-    omega (arith, 2≤P (a .n), c6 .if2 .left, c6 .before .places .ensures)
-    in
+    let passed = c .before .before .before .before in
+    let a = passed .before .before .before .before .before .before .before .args in
+    let z : 1 < length (a .coefficients .now) = omega (arith, 2≤P (a .n), fits passed .table .coefficients) in
     z
 
 root-range-requires : tie.Need-root-range-requires
@@ -114,7 +113,7 @@ slice-relend-prefix-write-below c = search needs
 slice-aggregate-write-below : tie.Need-slice-aggregate-write-below
 slice-aggregate-write-below c =
     let c10 = c .before .before .before .before .before .before .before .before .before .before in
-    sym (length-take-le _ _ (c10 .if4 .left))
+    sym (length-take-le _ _ (c10 .if3 .left))
 
 write-below-requires : tie.Need-write-below-requires
 write-below-requires c κs =
@@ -126,8 +125,8 @@ write-below-requires c κs =
     let f = fits (c9 .before) in
     let z = 2≤P (a .n) in
     let h = P-even (a .n) in
-    let w = f .coefficients in
-    let k = f .codes in
+    let w = f .table .coefficients in
+    let k = f .table .codes in
     (omega arith, (root-readings (a .coefficients .now) r, (omega arith, omega arith)))
 
 enum-told-2 : tie.Need-enum-told-2
@@ -136,8 +135,8 @@ enum-told-2 c = search needs
 same-length : tie.Need-same-length
 same-length c = search needs
 
-returns-6 : tie.Need-returns-6
-returns-6 c =
+returns-5 : tie.Need-returns-5
+returns-5 c =
     let c6 = c .before .before .before .before .before .before in
     let c9 = c6 .before .before .before in
     let c11 = c9 .before .before in
@@ -146,8 +145,8 @@ returns-6 c =
     laws.hours-written _ _ _ _ (fits (c11 .before)) _ (c11 .examine .ensures) (c9 .enum-told .given .1) _ r _
     (c15 .places .ensures) _ (c .before .write-below .ensures)
 
-returns-7 : tie.Need-returns-7
-returns-7 c =
+returns-6 : tie.Need-returns-6
+returns-6 c =
     let c2 = c .before .before in
     let c5 = c2 .before .before .before in
     let c7 = c5 .before .before in
@@ -163,12 +162,12 @@ turn-back-spec =
     bad-hours-requires
     returns
     places-requires
+    table-short-requires
     returns-2
     returns-3
-    returns-4
     examine-requires
     enum-known-i
-    returns-5
+    returns-4
     enum-told
     shared-slice-copy-out-root-range
     shared-slice-copy-out-root-range-2
@@ -179,5 +178,5 @@ turn-back-spec =
     write-below-requires
     enum-told-2
     same-length
-    returns-6
-    returns-7)
+    returns-5
+    returns-6)

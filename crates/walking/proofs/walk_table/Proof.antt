@@ -5,6 +5,7 @@ use lib.IntN.{pos}
 use lib.ListN.{getD}
 use borrow.Author.Needs.{needs}
 use Rattle.om3.proofs.Levels.{2≤P, P-even}
+use Rattle.om3.proofs.Making.{good-some}
 use Rattle.node.specs.declared.Root.{Root}
 use Rattle.node.specs.Steps.{rootOf}
 use Rattle.turning.proofs.AtRoot.{root-read}
@@ -42,7 +43,9 @@ returns : tie.Need-returns
 returns c = laws.root-unsound _ _ _ _ _ (root-told (c .before .before) (c .enum-told .given .1))
 
 places-requires : tie.Need-places-requires
-places-requires c κs = search needs
+places-requires c κs =
+    let start = c .before .before .before .before .before .before .before in
+    good-some _ (start .pre .0 .good) .1
 
 walk-requires : tie.Need-walk-requires
 walk-requires c κs =

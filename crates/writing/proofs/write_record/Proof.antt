@@ -2,12 +2,14 @@
 -- of a sound table. Assumes nothing.
 use mathlib.Core.Path.{_≡_, sym, _∙_}
 use mathlib.Core.Bool.{false}
+use Prim.Native.Nat.{_/_, _≤_}
 use lib.ListN.{length}
 use lib.Seq.{length-take-le}
 use borrow.Author.Needs.{needs}
 use Rattle.om3.specs.Series.{badHours}
 use Rattle.om3.specs.Record.{recordSize}
-use Rattle.om3.specs.Refusals.{Enough}
+use Rattle.om3.specs.Table.{lent}
+use Rattle.om3.specs.Refusals.{tableShort, Enough}
 use Rattle.om3.proofs.TableChecks.{enough}
 use Rattle.om3.proofs.Making.{good-some}
 use Rattle.om3.proofs.Levels.{P-most}
@@ -19,16 +21,36 @@ use Rattle.writing.proofs.write_record.Tie as tie
 good : (c : tie.Else1) → badHours (c .before .before .before .before .args .n) ≡ false
 good c = sym (c .before .bad-hours .ensures) ∙ c .if1 .left
 
+-- What check 3 found of the table.
+table-found : (c : tie.After-table-short) →
+    (let a = c .before .before .before .before .before .before .args in
+    c .table-short .result ≡ tableShort (a .n) (lent (a .coefficients .now) (a .codes .now)))
+table-found c = rw (c .before .places .ensures) at (c .table-short .ensures)
+
+-- The size that is asked for is the record's.
+size-right : (c : tie.After-record-size) →
+    (let a = c .before .before .before .before .before .before .before .before .args in
+    c .record-size .result ≡ recordSize (a .n))
+size-right c = rw (c .before .before .before .places .ensures) at (c .record-size .ensures)
+
 -- Checks 1 and 3 have passed.
-fits : (c : tie.Else4) →
+fits : (c : tie.Else3) →
     (let a = c .before .before .before .before .before .before .before .before .before .args in
     Enough (a .n) (a .coefficients .now) (a .codes .now) (length (a .bytes .now)) (recordSize (a .n)))
 fits c =
-    let c2 = c .before .before in
-    let c4 = c2 .before .before in
-    let size = rw (c4 .places .ensures) at (c .before .record-size .ensures) in
-    enough _ _ _ _ _ (good (c4 .before)) _ (c4 .places .ensures) (c2 .before .if2 .left) (c2 .if3 .left)
-    (rw size at (c .if4 .left))
+    let long = c .before .before in
+    let found = long .before in
+    enough _ _ _ _ _ (good (found .before .before)) (sym (table-found found) ∙ long .if2 .left)
+    (rw (size-right (c .before)) at (c .if3 .left))
+
+-- The buffers have the coefficients and the codes that are put.
+there : (c : tie.Else3) →
+    (let places = c .before .before .before .before in
+    let a = places .before .before .before .before .before .args in
+    (places .places .result ≤ length (a .coefficients .now)) × (places .places .result / 2 ≤ length (a .codes .now)))
+there c =
+    let table = fits c .table in
+    rw (c .before .before .before .before .places .ensures) (table .coefficients, table .codes)
 
 bad-hours-requires : tie.Need-bad-hours-requires
 bad-hours-requires c κs = search needs
@@ -39,38 +61,34 @@ returns c = laws.bad-hours _ _ _ _ (sym (c .before .bad-hours .ensures) ∙ c .i
 places-requires : tie.Need-places-requires
 places-requires c κs = good-some _ (good c) .1
 
+table-short-requires : tie.Need-table-short-requires
+table-short-requires c κs = search needs
+
 returns-2 : tie.Need-returns-2
 returns-2 c =
-    laws.few-coefficients _ _ _ _ (good (c .before .before)) _ (c .before .places .ensures) (c .if2 .taken)
-
-returns-3 : tie.Need-returns-3
-returns-3 c =
-    let c2 = c .before .before in
-    laws.few-codes _ _ _ _ (good (c2 .before)) _ (c2 .places .ensures) (c .before .if2 .left) (c .if3 .taken)
+    let found = c .before in
+    laws.short-table _ _ _ _ (good (found .before .before)) (sym (table-found found) ∙ c .if2 .taken)
 
 record-size-requires : tie.Need-record-size-requires
 record-size-requires c κs =
     let c2 = c .before .before in
     rw (c2 .places .ensures) (P-most (c2 .before .before .before .before .before .args .n))
 
-returns-4 : tie.Need-returns-4
-returns-4 c =
-    let c2 = c .before .before in
-    let c4 = c2 .before .before in
-    let size = rw (c4 .places .ensures) at (c .before .record-size .ensures) in
-    laws.few-bytes _ _ _ _ (good (c4 .before)) _ (c4 .places .ensures) (c2 .before .if2 .left) (c2 .if3 .left)
-    (rw size at (c .if4 .taken))
+returns-3 : tie.Need-returns-3
+returns-3 c =
+    let long = c .before .before in
+    let found = long .before in
+    laws.few-bytes _ _ _ _ (good (found .before .before)) (sym (table-found found) ∙ long .if2 .left)
+    (rw (size-right (c .before)) at (c .if3 .taken))
 
 examine-requires : tie.Need-examine-requires
-examine-requires c κs =
-    let f = fits c in
-    record { most = good-some _ (f .good) .1; coefficients = f .coefficients; codes = f .codes }
+examine-requires c κs = fits c .table
 
 enum-known-i : tie.Need-enum-known-i
 enum-known-i c = search needs
 
-returns-5 : tie.Need-returns-5
-returns-5 c =
+returns-4 : tie.Need-returns-4
+returns-4 c =
     let c3 = c .before .before .before in
     laws.unsound-refused _ _ _ _ (fits (c3 .before)) _ (c3 .examine .ensures) _ (c .before .i .given .1)
 
@@ -79,13 +97,13 @@ enum-told c = search needs
 
 slice-aggregate-put-record : tie.Need-slice-aggregate-put-record
 slice-aggregate-put-record c =
-    let c7 = c .before .before .before .before .before .before .before in
-    sym (length-take-le _ _ (c7 .if2 .left))
+    let passed = c .before .before .before .before in
+    sym (length-take-le _ _ (there passed .0))
 
 slice-aggregate-put-record-2 : tie.Need-slice-aggregate-put-record-2
 slice-aggregate-put-record-2 c =
-    let c7 = c .before .before .before .before .before .before .before in
-    sym (length-take-le _ _ (c7 .if3 .left))
+    let passed = c .before .before .before .before .before in
+    sym (length-take-le _ _ (there passed .1))
 
 put-record-requires : tie.Need-put-record-requires
 put-record-requires c κs =
@@ -99,8 +117,8 @@ put-record-requires c κs =
 same-length : tie.Need-same-length
 same-length c = search needs
 
-returns-6 : tie.Need-returns-6
-returns-6 c =
+returns-5 : tie.Need-returns-5
+returns-5 c =
     let c2 = c .before .before in
     let c6 = c2 .before .before .before .before in
     let c8 = c6 .before .before in
@@ -115,16 +133,16 @@ write-record-spec =
     bad-hours-requires
     returns
     places-requires
+    table-short-requires
     returns-2
-    returns-3
     record-size-requires
-    returns-4
+    returns-3
     examine-requires
     enum-known-i
-    returns-5
+    returns-4
     enum-told
     slice-aggregate-put-record
     slice-aggregate-put-record-2
     put-record-requires
     same-length
-    returns-6)
+    returns-5)
