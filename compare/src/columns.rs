@@ -14,8 +14,8 @@ const FEW_COLUMNS: usize = 40;
 /// To who keeps 32 bits of it, this is 1.
 pub const SMALL_IN_32_BITS: usize = (1 << 32) + 1;
 
-/// Numbers beyond every hour, width, column, depth and day. 24 times 2^61 wraps to 0, and 24 times the number after it
-/// to 8.
+/// Numbers beyond every hour, width, column, depth and day. 24 times 2^61 wraps to 0, and 24 times the next number of
+/// this list to 8.
 pub const FAR: [usize; 7] =
     [1 << 16, 1 << 32, SMALL_IN_32_BITS, 1 << 61, usize::MAX / 24 + 1, 1 << 63, usize::MAX];
 

@@ -189,6 +189,11 @@ pub fn edge_tables() -> Vec<(usize, Table)> {
     [edge_roots(), edge_details()].concat()
 }
 
+/// Each of these with each of them, itself too: all those of the first, then all those of the second, and so on.
+fn every_two<T: Copy>(these: &[T]) -> impl Iterator<Item = (T, T)> + '_ {
+    these.iter().flat_map(move |&first| these.iter().map(move |&second| (first, second)))
+}
+
 /// Every root with every code for one pair.
 fn edge_roots() -> Vec<(usize, Table)> {
     #[rustfmt::skip]
@@ -197,12 +202,10 @@ fn edge_roots() -> Vec<(usize, Table)> {
         ONLY_LEFT, ONLY_RIGHT, NEITHER, NEITHER + 1, i32::MAX,
     ];
     let mut tables = Vec::new();
-    for low in ROOTS {
-        for high in ROOTS {
-            for code in CODES.into_iter().chain([128, 255]) {
-                for n in [1, 2] {
-                    tables.push((n, Table { coefficients: vec![low, high], codes: vec![code] }));
-                }
+    for (low, high) in every_two(&ROOTS) {
+        for code in CODES.into_iter().chain([128, 255]) {
+            for n in [1, 2] {
+                tables.push((n, Table { coefficients: vec![low, high], codes: vec![code] }));
             }
         }
     }
@@ -216,16 +219,13 @@ fn edge_details() -> Vec<(usize, Table)> {
         i32::MIN, -2_000_001, -2_000_000, -6, -5, -1, 0, 1, 5, 6, 2_000_000,
         ONLY_LEFT, ONLY_RIGHT, NEITHER, NEITHER + 1, i32::MAX,
     ];
-    let two_codes = || CODES.into_iter().flat_map(|first| CODES.map(|second| (first, second)));
     let mut tables = Vec::new();
     for root in [[-5, 0], [3, 3], [-GREATEST_READING, GREATEST_READING], [NEITHER, NEITHER]] {
-        for low_detail in DETAILS {
-            for high_detail in DETAILS {
-                for (first, second) in two_codes() {
-                    let coefficients = vec![root[0], root[1], low_detail, high_detail];
-                    let n = if (first + second) % 2 == 0 { 4 } else { 3 };
-                    tables.push((n, Table { coefficients, codes: vec![first, second] }));
-                }
+        for (low_detail, high_detail) in every_two(&DETAILS) {
+            for (first, second) in every_two(&CODES) {
+                let coefficients = vec![root[0], root[1], low_detail, high_detail];
+                let n = if (first + second) % 2 == 0 { 4 } else { 3 };
+                tables.push((n, Table { coefficients, codes: vec![first, second] }));
             }
         }
     }

@@ -103,7 +103,7 @@ edges-passed (refuses r) x y e = let z : _≡_ {A = ℕ} 0 1 = cc in absurd (ome
 -- The checks of a whole call, in these parts: the first that refuses decides.
 module _ (n : ℕ) (t : Table) (a b w k : ℕ) (seven : List Check) (four : Check) where
   abbrev whole : Check
-  whole = columnChecks n (checkRoom (tableShort n t)) a b w k seven four
+  whole = columnChecks n t a b w k seven four
 
   parted : whole ≡ andThen (lentChecks n t) (andThen (windowChecks n a b w k) (inOrder (seven ++ four ∷ [])))
   parted =

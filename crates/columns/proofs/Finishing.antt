@@ -21,25 +21,23 @@ use Rattle.words.specs.declared.Range.the-variants.{Empty, Held}
 use Rattle.words.specs.declared.Refusal.{Refusal}
 use Rattle.words.specs.declared.Refusal.the-variants.{Unsound}
 use Rattle.om3.specs.Series.{levels}
-use Rattle.om3.specs.Nodes.{Node, number, width}
+use Rattle.om3.specs.Nodes.{Node, InTree, number, width}
 use Rattle.om3.specs.Ranges.{both, isEmpty}
 use Rattle.om3.specs.Table.{Table, lent}
 use Rattle.om3.specs.Down.{reached}
 use Rattle.om3.specs.Checks.{Check, passes, refuses, andThen, inOrder}
-use Rattle.om3.specs.Sound.{soundNode, examine, examineNode}
+use Rattle.om3.specs.Sound.{soundNode, examine, examineNode, examineNodes, examineRoot}
 use Rattle.om3.specs.Stopped.{openedNodes, countAt, rangeOver, innerNodes, inner}
 use Rattle.om3.specs.Finished.{lastOr, walk, nodesOf, towardsFirst, towardsLast, walks, answer, count}
 use Rattle.om3.specs.Finished.{examineFinished, finishedBy}
-use Rattle.om3.proofs.Nodes.{InTree}
 use Rattle.om3.proofs.Levels.{P-most}
-use Rattle.om3.proofs.Examined.{in-order-append}
+use Rattle.om3.proofs.Examined.{then-assoc, in-order-append}
 use Rattle.om3.proofs.Listed.{All}
 use Rattle.om3.proofs.KeptNodes.{NonEmpty, inner-non-empty}
 use Rattle.om3.proofs.NeverRefused.{last-in}
-use Rattle.turning.specs.Turning.{examineNodes}
 use Rattle.walking.specs.Nodes.{reachedOf, At, Below}
 use Rattle.walking.specs.Seen.{innerOver, tableSeen}
-use Rattle.walking.specs.Walking.{Asked, TableWalked}
+use Rattle.walking.specs.Walking.{StopsAt, TableWalked}
 use Rattle.walking.specs.declared.Inner.{Inner}
 use Rattle.walking.specs.declared.Reached.{Reached}
 use Rattle.walking.specs.declared.Seen.{Seen}
@@ -67,15 +65,15 @@ module _ (l n : ℕ) (t : Table) where
       → examine l n t (vs ++ us) ≡ andThen (examine l n t vs) (examineNodes l n t us)
   unfolding examine
   examine-append vs us =
-      let one : Node → Check = λ v. examineNode (number v) (soundNode l n t v) in
-      rw (map-append one vs us) (in-order-append (_ ∷ map one vs) (map one us))
+      ap (andThen (examineRoot t)) (nodes-append vs us)
+      ∙ then-assoc (examineRoot t) (examineNodes l n t vs) (examineNodes l n t us)
 
 -- A node of the tree as the code carries it is at its place, and covers no more hours than the largest series has.
 placed : {l : ℕ} (t : Table) (v : Node) → InTree l v → (at : Reached) → at ≡ reachedOf l t v → At l t v at
 placed t v i at e =
     rw e
     (record {
-      located = record { deep = i .deep; low = i .low; numbered = refl; begins = refl; covers = refl };
+      located = record { deep = i .deep; among = i .among; numbered = refl; begins = refl; covers = refl };
       range = refl;
     })
 
@@ -148,7 +146,7 @@ module _ (n : ℕ) (cs : List ℤ) (ks : List ℕ) (x : Column) where
     abbrev hours : leb (x .upto .0) (x .from .0) ≡ false
     hours = lt-leb (x .upto .0) (x .from .0) some
 
-    asked : Asked l l x 1
+    asked : StopsAt l l x 1
     asked =
         let z : l - l ≡ 0 = omega arith in
         record { deep = le-refl l; stops = rw z; some = some }

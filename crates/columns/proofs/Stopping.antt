@@ -16,7 +16,7 @@ use Rattle.om3.specs.Checks.{inOrder}
 use Rattle.om3.specs.Stopped.{examineOpened, countAt, rangeOver}
 use Rattle.om3.proofs.Examined.{then-passes}
 use Rattle.walking.specs.Seen.{innerOver}
-use Rattle.walking.specs.Walking.{Asked, TableWalked}
+use Rattle.walking.specs.Walking.{StopsAt, TableWalked}
 use Rattle.walking.specs.declared.Seen.{Seen}
 use Rattle.walking.specs.declared.Walked.{Walked}
 use Rattle.columns.specs.Drawing.{innerRange, StoppedOver, StoppedAt}
@@ -41,7 +41,7 @@ module _ (n : ℕ) (cs : List ℤ) (ks : List ℕ) (x : Column) (stop : ℕ) whe
       record { answer = λ d deep stops. rw none (rw none) }
 
   module _ (some : x .from .0 < x .upto .0) where
-    asked : (d : ℕ) → d ≤ l → stop ≡ 2 ^ (l - d) → Asked l d x stop
+    asked : (d : ℕ) → d ≤ l → stop ≡ 2 ^ (l - d) → StopsAt l d x stop
     asked d deep stops = record { deep = deep; stops = stops; some = some }
 
     pub stopped-unsound : (i : NodeId) → TableWalked n cs ks x stop (Walked.Unsound i)

@@ -31,7 +31,7 @@ use Rattle.om3.specs.Checks.{Check, passes, refuses, andThen, inOrder}
 use Rattle.om3.specs.Refusals.{checkHours, tableShort, checkRoom, checkWindow, checkColumn, checkDepth}
 use Rattle.om3.specs.Stopped.{examineOpened, stoppedBy}
 use Rattle.om3.specs.Finished.{walk, walkEnd, towardsFirst, towardsLast, readingAt, examineFinished, finishedBy}
-use Rattle.turning.specs.Turning.{examineNodes}
+use Rattle.om3.specs.Sound.{examineNodes}
 use Rattle.walking.specs.Nodes.{At}
 use Rattle.walking.specs.Descending.{Small}
 use Rattle.walking.specs.declared.Inner.{Inner}

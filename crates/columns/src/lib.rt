@@ -75,15 +75,15 @@ fn inner_range(inner: Inner) -> Range
     }
 }
 
-// The count of so many opened nodes: node 1, and both halves of each. Needs at most 16,384 of them.
-fn visited(opened: usize) -> usize
+// The count of so many opened nodes: node 1, and both halves of each. Needs at most 16,384 of them. [forms 7]
+fn count_of(opened: usize) -> usize
     requires { ⌜ opened ≤ largestHours ⌝ }
     ensures { λ r. ⌜ r ≡ 1 + 2 * opened ⌝ }
 {
     1 + 2 * opened
 }
 
-// A column of a table, stopped at nodes that cover so many hours, at least 1. Needs the buffers lent. A column without
+// A column of a table, stopped at nodes that cover `stop` hours, at least 1. Needs the buffers lent. A column without
 // an hour is answered with the table not examined.
 fn stopped_over(n: usize, coefficients: &[i32], codes: &[u8], x: Column, stop: usize) -> Stopped
     requires { ⌜ TableLent n (now coefficients) (now codes) ⌝ }
@@ -103,7 +103,7 @@ fn stopped_over(n: usize, coefficients: &[i32], codes: &[u8], x: Column, stop: u
             let outer = seen.outer;
             let nodes = seen.inner;
             let inner = inner_range(nodes);
-            let count = visited(seen.opened);
+            let count = count_of(seen.opened);
             Stopped::Ranges {
                 outer,
                 inner,
@@ -153,7 +153,7 @@ pub fn stopped(
 }
 
 // A column whose first and last inner node these are: the descents to its first and to its last reading. Needs both
-// nodes, with all below them, in the lent buffers, and numbers that can be added.
+// nodes, of at most 16,384 hours, with all below them, in the lent buffers, and a count of at most 32,768. [forms 7]
 fn found(
     n: usize,
     coefficients: &[i32],
@@ -208,7 +208,7 @@ fn finished_over(n: usize, coefficients: &[i32], codes: &[u8], x: Column) -> Fin
         Walked::Unsound(i) => Finished::Refused(Refusal::Unsound(i)),
         Walked::Through(seen) => {
             let nodes = seen.inner;
-            let count = visited(seen.opened);
+            let count = count_of(seen.opened);
             match nodes {
                 Inner::Nothing => Finished::Answered {
                     answer: Answer::NoReading,
@@ -228,7 +228,7 @@ fn finished_over(n: usize, coefficients: &[i32], codes: &[u8], x: Column) -> Fin
     }
 }
 
-// Column k of [a, b) in w columns, finished. Refusals in the order 1, 3, 5, 6, 4. [forms 7]
+// Column k of [a, b) in w columns, finished. Refusals in the order 1, 3, 5, 6, 4.
 pub fn finished(
     n: usize,
     coefficients: &[i32],

@@ -177,21 +177,12 @@ pub fn lend_bytes(text: &[u8], at: usize, room: &mut [u8]) -> Lent
     Lent { length, next }
 }
 
-// The size of a number.
-fn size_of(x: i32) -> u64 {
-    let wide = x as i64;
-    if wide < 0 {
-        return (0 - wide) as u64;
-    }
-    wide as u64
-}
-
 // Writes a number.
 fn print_number(x: i32) {
     if x < 0 {
         io::write_all(1, b"-");
     }
-    io::print_decimal(1, size_of(x));
+    io::print_decimal(1, signed::size_of(x) as u64);
 }
 
 // Writes the two numbers with which every answer begins: the number of a refusal, 0 if the call was taken, and its

@@ -1,5 +1,5 @@
--- Two tables that agree at the places of a table of l levels are the same to every definition: what lies beyond is not
--- looked at. Assumes nothing.
+-- Two tables that agree at the places of a table of l levels reach the same ranges, and one is sound if the other is:
+-- what lies beyond is not looked at. Assumes nothing.
 use mathlib.Core.Path.{_≡_, _∙_}
 use mathlib.Core.Bool.{true, cond}
 use mathlib.Core.Logic.{⊎-elim}
@@ -11,13 +11,13 @@ use lib.ListN.{getD}
 use lib.Pow.{pow-pos, pow-mono}
 use Rattle.words.specs.declared.Range.{Range}
 use Rattle.om3.specs.Lists.{every}
-use Rattle.om3.specs.Nodes.{Node, number}
+use Rattle.om3.specs.Nodes.{Node, InTree, number}
 use Rattle.om3.specs.Table.{Table}
 use Rattle.om3.specs.Down.{coefficientAt, lowDetailAt, highDetailAt, codeAt, leftOf, rightOf}
 use Rattle.om3.specs.Down.{reachedAt}
 use Rattle.om3.specs.Sound.{soundRootValues, soundNode, tableNodes, soundTable}
 use Rattle.om3.proofs.Tests.{and-left, and-right, both-true}
-use Rattle.om3.proofs.Nodes.{InTree, pair-yes, pair-no, detail-room, code-room}
+use Rattle.om3.proofs.Nodes.{pair-yes, pair-no, detail-room, code-room}
 use Rattle.om3.proofs.NodeLists.{table-from-each, each-in-table}
 
 pub record Agree (l : ℕ) (t u : Table) : Type 0 where
@@ -53,7 +53,7 @@ module _ (l : ℕ) (t u : Table) (same : Agree l t u) where
     reached-agrees (suc j) k le b =
         let b′ : k / 2 < 2 ^ j = omega (arith, two-pow-succ j) in
         let v : Node = record { level = j; index = k / 2 } in
-        let i : InTree l v = record { deep = omega arith; low = b′ } in
+        let i : InTree l v = record { deep = omega arith; among = b′ } in
         let r = reachedAt l u j (k / 2) in
         rw (reached-agrees j (k / 2) (i .deep) b′)
         (λ d. cond (eqb (k % 2) 0) (left-agrees v i le r d) (right-agrees v i le r d))
@@ -61,7 +61,7 @@ module _ (l : ℕ) (t u : Table) (same : Agree l t u) where
     node-agrees : (n : ℕ) (v : Node) → InTree l v → v .level < l → soundNode l n t v ≡ soundNode l n u v
     unfolding soundNode
     node-agrees n v i b =
-        let r = reached-agrees (v .level) (v .index) (i .deep) (i .low) in
+        let r = reached-agrees (v .level) (v .index) (i .deep) (i .among) in
         ⊎-elim
         (λ h. rw (pair-yes l v h, r, code-agrees v i h))
         (λ h. rw (pair-no l v h, r, low-agrees v i h, high-agrees v i h))

@@ -1,5 +1,5 @@
--- Numbers in bytes: big-endian, and three bytes of two's complement. What is written is read back, and bytes that were
--- read are written again as they were; the record's length. Assumes nothing.
+-- Numbers in bytes, big-endian: what is written is read back, and bytes that were read are written again as they were.
+-- Assumes nothing.
 use mathlib.Core.Path.{_≡_, refl, sym, ap, _∙_}
 use mathlib.Core.List.{List, [], _∷_, _++_}
 use Prim.Native.Nat.{ℕ, zero, suc, _+_, _*_, _/_, _%_, _^_, _≤_, _<_}

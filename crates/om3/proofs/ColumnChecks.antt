@@ -13,7 +13,7 @@ use Rattle.words.specs.Constants.{mostColumns, dayHours}
 use Rattle.om3.specs.Series.{Series, levels, P}
 use Rattle.om3.specs.Table.{Table, coefficient, codeOfPlace, HasTable}
 use Rattle.om3.specs.Checks.{Check, passes, inOrder}
-use Rattle.om3.specs.Refusals.{tableShort, checkRoom, columnChecks, dayChecks}
+use Rattle.om3.specs.Refusals.{tableShort, columnChecks, dayChecks}
 use Rattle.om3.specs.Drawn.{Drawn}
 use Rattle.om3.proofs.Lists.{map-up-length, take-room}
 use Rattle.om3.proofs.Taken.{good-hours}
@@ -36,7 +36,7 @@ module _ (n : ℕ) (s : List ℤ) (t : Table) (series : Series n s) (has : HasTa
   -- Checks 1, 3, 5 and 6 pass, so the others decide.
   pub columns-pass : (a b w k : ℕ) → Drawn n a b w k → (seven : List Check) (four : Check)
       → inOrder (seven ++ four ∷ []) ≡ passes
-      → columnChecks n (checkRoom (tableShort n t)) a b w k seven four ≡ passes
+      → columnChecks n t a b w k seven four ≡ passes
   unfolding inOrder
   columns-pass a b w k c seven four e =
       let p = window-passes n a b (c .ordered) (c .ends) in

@@ -7,7 +7,7 @@ use Prim.Native.Nat.{ℕ, _/_, _^_, _≤_, _<_}
 use native.Mathlib.Nat.{le-refl}
 use native.Mathlib.Omega.{arith}
 use lib.IntN.{ℤ, pos, negℤ}
-use lib.ListN.{length, getD, take}
+use lib.ListN.{getD, take}
 use lib.Seq.{ext-getD, getD-take, length-take-le, take-all}
 use borrow.Author.Tests.{lt-ltb}
 use Rattle.signed.proofs.Rules.{signed}
@@ -17,7 +17,7 @@ use Rattle.words.specs.declared.Range.{Range}
 use Rattle.words.specs.declared.Range.the-variants.{Empty, Held}
 use Rattle.om3.specs.Series.{isReading, isGap, Series, levels, P, hour, hourOf}
 use Rattle.om3.specs.Ranges.{Readings, rangeOf}
-use Rattle.om3.specs.Nodes.{Node}
+use Rattle.om3.specs.Nodes.{Node, InTree}
 use Rattle.om3.specs.Table.{Table, coefficient, codeOfPlace, tableOf, HasTable}
 use Rattle.om3.specs.Down.{reachedAt, reached, turnedBack}
 use Rattle.om3.specs.Sound.{soundTable}
@@ -25,7 +25,7 @@ use Rattle.om3.specs.Refusals.{tableShort}
 use Rattle.om3.proofs.Tests.{left-true, is-between}
 use Rattle.om3.proofs.Lists.{map-up-length, map-up-from-0}
 use Rattle.om3.proofs.Levels.{levels-some, n≤P}
-use Rattle.om3.proofs.Nodes.{InTree, start-hour}
+use Rattle.om3.proofs.Nodes.{start-hour}
 use Rattle.om3.proofs.Ranges.{low-hour}
 use Rattle.om3.proofs.Places.{hour-range}
 use Rattle.om3.proofs.Reached.{reached-range}
@@ -73,8 +73,8 @@ module _ (n : ℕ) where
     pub has-ranges : (v : Node) → InTree l v → reached l t v ≡ rangeOf l n s v
     has-ranges v i =
         let o = levels-some n in
-        reached-agrees l t (tableOf l n s) (has-agrees s t h) o (v .level) (v .index) (i .deep) (i .low)
-        ∙ reached-range l n s (series .holds) o (v .level) (v .index) (i .deep) (i .low)
+        reached-agrees l t (tableOf l n s) (has-agrees s t h) o (v .level) (v .index) (i .deep) (i .among)
+        ∙ reached-range l n s (series .holds) o (v .level) (v .index) (i .deep) (i .among)
 
     at-hour : (k : ℕ) → k < n → getD s k gap ≡ lowOf (reachedAt l t l k)
     unfolding hourOf
@@ -82,7 +82,7 @@ module _ (n : ℕ) where
         let b′ : k < 2 ^ l = omega (arith, n≤P n (series .most)) in
         let v : Node = record { level = l; index = k } in
         rw (
-          has-ranges v (record { deep = le-refl l; low = b′ }),
+          has-ranges v (record { deep = le-refl l; among = b′ }),
           hour-range l n s v refl,
           start-hour l v refl,
           low-hour (hourOf n s (hour k)),
@@ -104,7 +104,7 @@ module _ (n : ℕ) where
           size = turned-length l t n;
           holds = λ k b.
               let b′ : k < 2 ^ l = omega (arith, n≤P n most) in
-              let i : InTree l (record { level = l; index = k }) = record { deep = le-refl l; low = b′ } in
+              let i : InTree l (record { level = l; index = k }) = record { deep = le-refl l; among = b′ } in
               rw (turned-at l t n k b) (low-holds (reachedAt l t l k) (readings-reached l n t ok _ i));
         }
 

@@ -8,13 +8,12 @@ use Rattle.signed.proofs.Parts.{clash}
 use Rattle.words.specs.declared.Column.{Column}
 use Rattle.words.specs.declared.Range.{Range}
 use Rattle.words.specs.declared.Range.the-variants.{Empty, Held}
-use Rattle.om3.specs.Nodes.{Node, left, right}
+use Rattle.om3.specs.Nodes.{Node, InTree, left, right}
 use Rattle.om3.specs.Ranges.{both}
 use Rattle.om3.specs.Table.{Table}
 use Rattle.om3.specs.Down.{reached}
 use Rattle.om3.specs.Stopped.{shares, inside, opened, visited, outer, inner}
 use Rattle.om3.specs.Looked.{LiesWithin}
-use Rattle.om3.proofs.Nodes.{InTree}
 use Rattle.om3.proofs.Opened.{opened-opens, unopened-if}
 use Rattle.om3.proofs.BelowOpened.{visited-left, visited-right, visited-root}
 use Rattle.om3.proofs.EachVisited.{inside-shares, opened-or-inside, opened-deeper, AtEnds, GoingOn, each-visited}

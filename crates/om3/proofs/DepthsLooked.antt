@@ -12,7 +12,7 @@ use Rattle.words.specs.declared.Column.{Column}
 use Rattle.words.specs.declared.Range.{Range}
 use Rattle.words.specs.declared.Range.the-variants.{Empty}
 use Rattle.om3.specs.Series.{isGap, hour, hourOf}
-use Rattle.om3.specs.Nodes.{Node, left, right, width, start, hours}
+use Rattle.om3.specs.Nodes.{Node, InTree, left, right, width, start, hours}
 use Rattle.om3.specs.Ranges.{look, rangeOf}
 use Rattle.om3.specs.Table.{Table}
 use Rattle.om3.specs.Down.{reached}
@@ -20,7 +20,7 @@ use Rattle.om3.specs.Columns.{inColumn, columnHours}
 use Rattle.om3.specs.Stopped.{inside, outer, inner}
 use Rattle.om3.specs.Looked.{Covers, LiesWithin}
 use Rattle.om3.proofs.Tests.{below-or-not}
-use Rattle.om3.proofs.Nodes.{InTree, left-in, right-in, start-root, width-root}
+use Rattle.om3.proofs.Nodes.{left-in, right-in, start-root, width-root}
 use Rattle.om3.proofs.Ranges.{range-halves}
 use Rattle.om3.proofs.Intervals.{Within, in-column, column-in, overlap-shares, inside-within}
 use Rattle.om3.proofs.Opened.{node-cut}

@@ -8,10 +8,10 @@ use native.Mathlib.Nat.{eq-or-lt-of-le, zero-add}
 use native.Mathlib.Omega.{arith}
 use Rattle.signed.proofs.Parts.{clash}
 use Rattle.words.specs.declared.Column.{Column}
-use Rattle.om3.specs.Nodes.{Node, root, left, right}
+use Rattle.om3.specs.Nodes.{Node, InTree, root, left, right}
 use Rattle.om3.specs.Table.{Table}
 use Rattle.om3.specs.Stopped.{hasReading, shares, inside, opened, visited}
-use Rattle.om3.proofs.Nodes.{InTree, root-in, left-in, right-in, width-hour}
+use Rattle.om3.proofs.Nodes.{root-in, left-in, right-in, width-hour}
 use Rattle.om3.proofs.Intervals.{width-some, shares-overlap, overlap-shares, inside-within, within-inside}
 use Rattle.om3.proofs.Opened.{opened-opens, opens-opened, unopened-if}
 use Rattle.om3.proofs.BelowOpened.{visited-left, visited-right, visited-root}

@@ -1,9 +1,10 @@
 -- Checks one after another; the examination of a table passes exactly if every node of it is sound. Assumes nothing.
 use mathlib.Core.Path.{_≡_, refl, sym, ap, _∙_}
 use mathlib.Core.Bool.{Bool, true, false, _&&_}
-use mathlib.Core.List.{List, [], _∷_, _++_, map}
+use mathlib.Core.List.{List, [], _∷_, _++_}
 use mathlib.Core.Logic.{_↔_}
 use Prim.Native.Nat.{ℕ}
+use native.Mathlib.Omega.{arith}
 use Rattle.signed.proofs.Parts.{clash}
 use Rattle.words.specs.declared.Refusal.{Refusal}
 use Rattle.words.specs.declared.NodeId.{NodeId}
@@ -11,8 +12,9 @@ use Rattle.om3.specs.Lists.{every}
 use Rattle.om3.specs.Nodes.{Node, number}
 use Rattle.om3.specs.Table.{Table}
 use Rattle.om3.specs.Down.{coefficientAt}
-use Rattle.om3.specs.Checks.{Check, passes, refuses, refuseIf, andThen, inOrder}
-use Rattle.om3.specs.Sound.{soundRootValues, soundNode, tableNodes, soundTable, examineNode, examine}
+use Rattle.om3.specs.Checks.{Check, passes, refuses, refuseIf, andThen, inOrder, FirstCause}
+use Rattle.om3.specs.Sound.{soundRootValues, soundNode, tableNodes, soundTable, examineNode, examineNodes}
+use Rattle.om3.specs.Sound.{examine}
 
 -- A first and a second check pass only if both do; a check passes only if its cause is not there.
 pub then-first : (c d : Check) → andThen c d ≡ passes → c ≡ passes
@@ -50,6 +52,29 @@ unfolding inOrder
 in-order-append [] ds = refl
 in-order-append (c ∷ cs) ds = ap (andThen c) (in-order-append cs ds) ∙ then-assoc c (inOrder cs) (inOrder ds)
 
+-- A list of checks refuses by its first cause, and by no other.
+causes : (cs : List Check) (why : Refusal) → inOrder cs ≡ refuses why → FirstCause cs why
+unfolding inOrder
+causes [] why e = let z : _≡_ {A = ℕ} 0 1 = cc in absurd (omega arith)
+causes (passes ∷ cs) why e =
+    let f = causes cs why e in
+    record {
+      before = passes ∷ f .before;
+      after = f .after;
+      among = ap (λ ds. passes ∷ ds) (f .among);
+      passed = f .passed;
+    }
+causes (refuses r ∷ cs) why e =
+    let same : r ≡ why = cc in
+    record { before = []; after = cs; among = rw same; passed = refl }
+
+pub first-cause : (cs : List Check) (why : Refusal) → (inOrder cs ≡ refuses why) ↔ FirstCause cs why
+unfolding inOrder
+first-cause cs why = (
+  causes cs why,
+  λ f. rw (f .among) (in-order-append (f .before) (refuses why ∷ f .after) ∙ rw (f .passed)),
+)
+
 -- One more node and those after it pass exactly if it is sound and those after it pass.
 node-passes : (i : NodeId) (b : Bool) (c : Check) (rest : Bool) → (c ≡ passes) ↔ (rest ≡ true)
     → (andThen (examineNode i b) c ≡ passes) ↔ ((b && rest) ≡ true)
@@ -58,8 +83,7 @@ node-passes i false c rest e = (λ h. cc, λ h. clash h)
 
 module _ (l n : ℕ) (t : Table) where
   nodes-pass : (vs : List Node)
-      → (inOrder (map (λ v. examineNode (number v) (soundNode l n t v)) vs) ≡ passes)
-      ↔ (every (soundNode l n t) vs ≡ true)
+      → (examineNodes l n t vs ≡ passes) ↔ (every (soundNode l n t) vs ≡ true)
   unfolding inOrder every
   nodes-pass [] = (λ h. refl, λ h. refl)
   nodes-pass (v ∷ vs) = node-passes (number v) (soundNode l n t v) _ (every (soundNode l n t) vs) (nodes-pass vs)

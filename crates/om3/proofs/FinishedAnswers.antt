@@ -11,7 +11,7 @@ use Rattle.words.specs.declared.Range.the-variants.{Empty, Held}
 use Rattle.words.specs.declared.Answer.{Answer}
 use Rattle.words.specs.declared.Answer.the-variants.{NoReading, Found}
 use Rattle.words.specs.declared.Column.{Column}
-use Rattle.om3.specs.Nodes.{Node}
+use Rattle.om3.specs.Nodes.{Node, InTree}
 use Rattle.om3.specs.Ranges.{rangeOf}
 use Rattle.om3.specs.Table.{Table}
 use Rattle.om3.specs.Down.{reached}
@@ -20,7 +20,6 @@ use Rattle.om3.specs.Stopped.{countAt, rangeOver, innerNodes, inner}
 use Rattle.om3.specs.Finished.{levelsOf, endOf, walkEnd, lastOr, sum, towardsFirst, towardsLast, firstWalk}
 use Rattle.om3.specs.Finished.{lastWalk, walks, readingAt, answerOver, answer, count}
 use Rattle.om3.specs.Looked.{lookThrough}
-use Rattle.om3.proofs.Nodes.{InTree}
 use Rattle.om3.proofs.Listed.{All}
 use Rattle.om3.proofs.Answers.{joined-right}
 use Rattle.om3.proofs.LookedThrough.{rangeOfAnswer, range-joined}

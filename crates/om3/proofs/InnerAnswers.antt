@@ -12,7 +12,7 @@ use Rattle.words.specs.declared.Answer.{Answer}
 use Rattle.words.specs.declared.Answer.the-variants.{NoReading}
 use Rattle.words.specs.declared.Column.{Column}
 use Rattle.om3.specs.Lists.{keep}
-use Rattle.om3.specs.Nodes.{Node, left, right}
+use Rattle.om3.specs.Nodes.{Node, InTree, left, right}
 use Rattle.om3.specs.Ranges.{rangeOf}
 use Rattle.om3.specs.Table.{Table}
 use Rattle.om3.specs.Down.{reached}
@@ -21,7 +21,6 @@ use Rattle.om3.specs.Columns.{inColumn, columnHours}
 use Rattle.om3.specs.Stopped.{hasReading, shares, inside, opened, isInner, innerNodes}
 use Rattle.om3.specs.Joined.{joined}
 use Rattle.om3.specs.Looked.{lookThrough}
-use Rattle.om3.proofs.Nodes.{InTree}
 use Rattle.om3.proofs.BelowOpened.{inner-kept, inner-end}
 use Rattle.om3.proofs.EachVisited.{opened-or-inside, AtEnds, GoingOn, root-visited}
 use Rattle.om3.proofs.Answers.{joined-right}

@@ -8,13 +8,12 @@ use native.Mathlib.Nat.{two-pow-succ}
 use native.Mathlib.Omega.{arith}
 use Rattle.words.specs.declared.Column.{Column}
 use Rattle.om3.specs.Lists.{keep}
-use Rattle.om3.specs.Nodes.{Node, root, left, right}
+use Rattle.om3.specs.Nodes.{Node, InTree, root, left, right}
 use Rattle.om3.specs.Table.{Table}
 use Rattle.om3.specs.Sound.{nodesBelow, allNodes}
 use Rattle.om3.specs.Stopped.{hasReading, shares, inside, opened, visited, openedNodes, isOuter, isInner}
 use Rattle.om3.specs.Stopped.{innerNodes}
 use Rattle.om3.proofs.Tests.{and-left, and-right}
-use Rattle.om3.proofs.Nodes.{InTree}
 use Rattle.om3.proofs.Listed.{All, all-append, all-map}
 use Rattle.om3.proofs.Opened.{opened-opens}
 
@@ -37,7 +36,7 @@ below-in l (suc h) v b k =
     let b′ : suc (v .level) + h ≤ suc l = omega arith in
     let L : 2 * v .index < 2 ^ suc (v .level) = omega (arith, two-pow-succ (v .level)) in
     let R : 2 * v .index + 1 < 2 ^ suc (v .level) = omega (arith, two-pow-succ (v .level)) in (
-      record { deep = omega arith; low = k },
+      record { deep = omega arith; among = k },
       all-append (InTree l) (nodesBelow h (left v)) (nodesBelow h (right v)) (below-in l h (left v) b′ L)
           (below-in l h (right v) b′ R),
     )

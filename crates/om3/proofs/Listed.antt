@@ -6,10 +6,9 @@ use mathlib.Core.Logic.{⊎-elim}
 use Prim.Native.Nat.{ℕ, zero, suc, _+_, _-_, _/_, _^_, _<_}
 use native.Mathlib.Nat.{two-pow-succ}
 use native.Mathlib.Omega.{arith}
-use Rattle.om3.specs.Nodes.{Node, root, left, right}
+use Rattle.om3.specs.Nodes.{Node, InTree, root, left, right}
 use Rattle.om3.specs.Sound.{nodesBelow}
 use Rattle.om3.proofs.Tests.{even-or-odd}
-use Rattle.om3.proofs.Nodes.{InTree}
 
 abbrev pub All : (Node → Type 0) → List Node → Type 0
 All P [] = Unit
@@ -56,4 +55,4 @@ module _ (P : Node → Type 0) where
     unfolding nodesBelow
     each-listed v i b =
         let e : v .level + suc (l - suc (v .level)) ≡ l = omega arith in
-        below (v .level) (v .index) (suc (l - suc (v .level))) e (i .low) .0
+        below (v .level) (v .index) (suc (l - suc (v .level))) e (i .among) .0

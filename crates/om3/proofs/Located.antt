@@ -5,18 +5,18 @@ use mathlib.Core.Logic.{⊎-elim}
 use Prim.Native.Nat.{ℕ, suc, _+_, _-_, _*_, _/_, _^_, _≤_, _<_}
 use native.Mathlib.Omega.{arith}
 use lib.Pow.{pow-mono}
-use Rattle.om3.specs.Nodes.{Node, root, left, right, width, Located}
+use Rattle.om3.specs.Nodes.{Node, InTree, root, left, right, width, Located}
 use Rattle.om3.proofs.Tests.{below-or-not}
-use Rattle.om3.proofs.Nodes.{InTree, start-root, width-root, width-half, width-right, start-left, start-right}
+use Rattle.om3.proofs.Nodes.{start-root, width-root, width-half, width-right, start-left, start-right}
 use Rattle.om3.proofs.Nodes.{number-left, number-right, left-in, right-in}
 
 pub root-located : (l : ℕ) → Located l root 1 0 (2 ^ l)
 root-located l =
-    record { deep = omega arith; low = omega arith; numbered = refl; begins = start-root l; covers = width-root l }
+    record { deep = omega arith; among = omega arith; numbered = refl; begins = start-root l; covers = width-root l }
 
 module _ {l : ℕ} {v : Node} {i f w : ℕ} (at : Located l v i f w) where
   pub located-in : InTree l v
-  located-in = record { deep = at .deep; low = at .low }
+  located-in = record { deep = at .deep; among = at .among }
 
   -- How many hours a node covers tells its level: two or three are a pair's, four or more no pair's.
   pub above-hours : 2 ≤ w → v .level < l
@@ -72,7 +72,7 @@ module _ {l : ℕ} {v : Node} {i f w : ℕ} (at : Located l v i f w) where
     left-located =
         record {
           deep = b;
-          low = left-in located-in b .low;
+          among = left-in located-in b .among;
           numbered = omega (arith, number-left v, at .numbered);
           begins = start-left l v b ∙ at .begins;
           covers = half;
@@ -82,7 +82,7 @@ module _ {l : ℕ} {v : Node} {i f w : ℕ} (at : Located l v i f w) where
     right-located =
         record {
           deep = b;
-          low = right-in located-in b .low;
+          among = right-in located-in b .among;
           numbered = omega (arith, number-right v, at .numbered);
           begins = omega (arith, start-right l v b, at .begins, half);
           covers = width-right l v b ∙ half;

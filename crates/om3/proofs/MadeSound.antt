@@ -18,14 +18,14 @@ use Rattle.words.specs.Said.{lowOf, highOf}
 use Rattle.words.specs.declared.Range.{Range}
 use Rattle.words.specs.declared.Range.the-variants.{Empty, Held}
 use Rattle.om3.specs.Series.{isReading, isGap, Holds, hour, hourOf}
-use Rattle.om3.specs.Nodes.{Node, root, left, right, start, firstHour}
+use Rattle.om3.specs.Nodes.{Node, InTree, root, left, right, start, firstHour}
 use Rattle.om3.specs.Ranges.{hourRange, both, rangeOf, isEmpty, Readings}
 use Rattle.om3.specs.Table.{Table, lowDetail, highDetail, code, pairCode, tableOf}
 use Rattle.om3.specs.Down.{leftHalf, coefficientAt}
 use Rattle.om3.specs.Sound.{isDetail, ordered, bothAre, soundDetails, soundCode, gapFrom, soundNode}
 use Rattle.om3.specs.Sound.{soundRootValues, soundTable}
 use Rattle.om3.proofs.Tests.{both-true, left-true, right-true, is-between}
-use Rattle.om3.proofs.Nodes.{InTree, pair-yes, pair-no}
+use Rattle.om3.proofs.Nodes.{pair-yes, pair-no}
 use Rattle.om3.proofs.Ranges.{range-halves, readings-range}
 use Rattle.om3.proofs.Down.{left-back, right-back, first-back, second-back}
 use Rattle.om3.proofs.Places.{root-low, root-high, low-place, high-place, code-place, hour-range}
@@ -102,7 +102,7 @@ module _ (l n : ℕ) (s : List ℤ) (holds : Holds n s) (o : 1 ≤ l) where
     detail-node h =
         rw (
           pair-no l v h,
-          reached-range l n s holds o (v .level) (v .index) (i .deep) (i .low),
+          reached-range l n s holds o (v .level) (v .index) (i .deep) (i .among),
           range-halves l n s v b,
           low-place l n s v i h,
           high-place l n s v i h,
@@ -117,7 +117,7 @@ module _ (l n : ℕ) (s : List ℤ) (holds : Holds n s) (o : 1 ≤ l) where
         let y = hourOf n s (hour (start l (right v))) in
         rw (
           pair-yes l v h,
-          reached-range l n s holds o (v .level) (v .index) (i .deep) (i .low),
+          reached-range l n s holds o (v .level) (v .index) (i .deep) (i .among),
           range-halves l n s v b,
           code-place l n s v i h,
           hour-range l n s (left v) h,

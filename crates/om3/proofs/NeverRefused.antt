@@ -2,22 +2,22 @@
 -- the first and to the last reading, are nodes of the table, so each of them is sound. Assumes nothing.
 use mathlib.Core.Path.{_≡_, refl}
 use mathlib.Core.Bool.{Bool, true, false, cond}
-use mathlib.Core.List.{List, [], _∷_, _++_, map, flatMap}
+use mathlib.Core.List.{List, [], _∷_, _++_, flatMap}
 use Prim.Native.Nat.{ℕ, zero, suc, _+_, _≤_, _<_}
 use native.Mathlib.Nat.{le-refl}
 use native.Mathlib.Omega.{arith}
 use Rattle.words.specs.declared.Range.{Range}
 use Rattle.words.specs.declared.Range.the-variants.{Empty, Held}
 use Rattle.words.specs.declared.Column.{Column}
-use Rattle.om3.specs.Nodes.{Node, number, root}
+use Rattle.om3.specs.Nodes.{Node, InTree, root}
 use Rattle.om3.specs.Table.{Table}
 use Rattle.om3.specs.Checks.{Check, passes, inOrder}
-use Rattle.om3.specs.Sound.{soundNode, soundTable, examineNode, examine}
+use Rattle.om3.specs.Sound.{soundTable, examine, examineNodes}
 use Rattle.om3.specs.Columns.{noHour}
 use Rattle.om3.specs.Stopped.{openedNodes, innerNodes, inner, examineOpened}
 use Rattle.om3.specs.Finished.{walk, nodesOf, firstOr, lastOr, towardsFirst, towardsLast, firstWalk, lastWalk}
 use Rattle.om3.specs.Finished.{walks, examineFinished}
-use Rattle.om3.proofs.Nodes.{InTree, root-in}
+use Rattle.om3.proofs.Nodes.{root-in}
 use Rattle.om3.proofs.Listed.{All, all-append}
 use Rattle.om3.proofs.SoundTables.{root-sound, node-sound}
 use Rattle.om3.proofs.WalksEnd.{Taken, first-taken, last-taken}
@@ -70,8 +70,7 @@ hour-or-passes true c e = refl
 hour-or-passes false c e = e
 
 module _ (l n : ℕ) (t : Table) (ok : soundTable l n t ≡ true) where
-  nodes-pass : (vs : List Node) → All (Above l) vs
-      → inOrder (map (λ v. examineNode (number v) (soundNode l n t v)) vs) ≡ passes
+  nodes-pass : (vs : List Node) → All (Above l) vs → examineNodes l n t vs ≡ passes
   unfolding inOrder
   nodes-pass [] a = refl
   nodes-pass (v ∷ vs) a = rw (node-sound l n t ok v (a .0 .inTree) (a .0 .above)) (nodes-pass vs (a .1))

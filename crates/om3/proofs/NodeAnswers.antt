@@ -13,14 +13,14 @@ use Rattle.words.specs.declared.Answer.{Answer}
 use Rattle.words.specs.declared.Answer.the-variants.{NoReading, Found}
 use Rattle.om3.specs.Lists.{upFrom}
 use Rattle.om3.specs.Series.{isGap, hour, hourOf}
-use Rattle.om3.specs.Nodes.{Node, left, right, hours}
+use Rattle.om3.specs.Nodes.{Node, InTree, left, right, hours}
 use Rattle.om3.specs.Ranges.{isEmpty, rangeOf}
 use Rattle.om3.specs.Table.{Table}
 use Rattle.om3.specs.Down.{reached}
 use Rattle.om3.specs.Stopped.{hasReading}
 use Rattle.om3.specs.Joined.{joined}
 use Rattle.om3.specs.Looked.{readingOf, hourAnswer, lookThrough}
-use Rattle.om3.proofs.Nodes.{InTree, hours-halves, width-hour, start-hour}
+use Rattle.om3.proofs.Nodes.{hours-halves, width-hour, start-hour}
 use Rattle.om3.proofs.Answers.{joined-right}
 use Rattle.om3.proofs.LookedThrough.{joined-assoc, rangeOfAnswer, look-through-append, look-through-range}
 

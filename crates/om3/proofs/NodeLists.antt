@@ -8,10 +8,10 @@ use Prim.Native.Nat.{ℕ, zero, suc, _+_, _-_, _/_, _^_, _≤_, _<_}
 use native.Mathlib.Nat.{two-pow-succ}
 use native.Mathlib.Omega.{arith}
 use Rattle.om3.specs.Lists.{every}
-use Rattle.om3.specs.Nodes.{Node, root, left, right}
+use Rattle.om3.specs.Nodes.{Node, InTree, root, left, right}
 use Rattle.om3.specs.Sound.{nodesBelow, tableNodes}
 use Rattle.om3.proofs.Tests.{and-left, and-right, both-true, even-or-odd}
-use Rattle.om3.proofs.Nodes.{InTree, root-in, left-in, right-in}
+use Rattle.om3.proofs.Nodes.{root-in, left-in, right-in}
 
 pub every-append : {A : Type 0} (p : A → Bool) (xs ys : List A) → every p (xs ++ ys) ≡ (every p xs && every p ys)
 unfolding every
@@ -63,4 +63,4 @@ module _ (l : ℕ) (p : Node → Bool) where
     unfolding nodesBelow every
     each-in-table v i b =
         let e : v .level + suc (l - suc (v .level)) ≡ l = omega arith in
-        and-left (p v) _ (below (v .level) (v .index) (suc (l - suc (v .level))) e (i .low))
+        and-left (p v) _ (below (v .level) (v .index) (suc (l - suc (v .level))) e (i .among))

@@ -11,25 +11,21 @@ use borrow.Author.Tests.{le-leb, lt-leb, eq-eqb, ne-eqb}
 use Rattle.words.specs.declared.NodeId.{NodeId}
 use Rattle.om3.specs.Lists.{upFrom}
 use Rattle.om3.specs.Series.{hour}
-use Rattle.om3.specs.Nodes.{Node, number, root, left, right, isPair, width, start, hours, levelOf, nodeOf}
+use Rattle.om3.specs.Nodes.{Node, InTree, number, root, left, right, isPair, width, start, hours, levelOf}
+use Rattle.om3.specs.Nodes.{nodeOf}
 use Rattle.om3.proofs.Tests.{below-or-not}
 use Rattle.om3.proofs.Lists.{up-append}
 use Rattle.om3.proofs.Levels.{half-pow}
 
--- A node of the tree of l levels, single hours included.
-pub record InTree (l : ℕ) (v : Node) : Type 0 where
-  pub deep : v .level ≤ l
-  pub low : v .index < 2 ^ v .level
-
 pub root-in : (l : ℕ) → InTree l root
-root-in l = record { deep = omega arith; low = omega arith }
+root-in l = record { deep = omega arith; among = omega arith }
 
 module _ {l : ℕ} {v : Node} (i : InTree l v) (b : v .level < l) where
   pub left-in : InTree l (left v)
-  left-in = record { deep = b; low = omega (arith, i .low, two-pow-succ (v .level)) }
+  left-in = record { deep = b; among = omega (arith, i .among, two-pow-succ (v .level)) }
 
   pub right-in : InTree l (right v)
-  right-in = record { deep = b; low = omega (arith, i .low, two-pow-succ (v .level)) }
+  right-in = record { deep = b; among = omega (arith, i .among, two-pow-succ (v .level)) }
 
 -- Node i has halves 2i and 2i + 1. [hours 8]
 pub number-left : (v : Node) → number (left v) .0 ≡ 2 * number v .0
@@ -46,13 +42,13 @@ pair-no l v h = ne-eqb (v .level) (l - 1) (λ e. omega arith)
 
 -- The details of a node that is not a pair stand below place 2^l, the code of a pair below place 2^l/2.
 pub detail-room : (l : ℕ) (v : Node) → InTree l v → suc (v .level) < l → 2 * number v .0 + 1 < 2 ^ l
-detail-room l v i b = omega (arith, i .low, two-pow-succ (v .level), two-pow-succ (suc (v .level)), pow-mono b)
+detail-room l v i b = omega (arith, i .among, two-pow-succ (v .level), two-pow-succ (suc (v .level)), pow-mono b)
 
 pub pair-half : (l : ℕ) (v : Node) → suc (v .level) ≡ l → 2 ^ l / 2 ≡ 2 ^ v .level
 pair-half l v h = half-pow l (omega arith) ∙ ap (λ (j : ℕ). 2 ^ j) (omega arith)
 
 pub code-room : (l : ℕ) (v : Node) → InTree l v → suc (v .level) ≡ l → number v .0 - 2 ^ l / 2 < 2 ^ l / 2
-code-room l v i h = omega (arith, i .low, pair-half l v h)
+code-room l v i h = omega (arith, i .among, pair-half l v h)
 
 -- Node 1 covers all hours.
 pub start-root : (l : ℕ) → start l root ≡ 0
@@ -127,7 +123,7 @@ level-is (suc l) j i le lo hi =
 pub node-of-number : (l : ℕ) (v : Node) → InTree l v → nodeOf l (number v) ≡ v
 node-of-number l v i =
     let lo : 2 ^ v .level ≤ number v .0 = omega arith in
-    let hi : number v .0 < 2 ^ suc (v .level) = omega (arith, i .low, two-pow-succ (v .level)) in
+    let hi : number v .0 < 2 ^ suc (v .level) = omega (arith, i .among, two-pow-succ (v .level)) in
     let e : levelOf l (number v) ≡ v .level = level-is l (v .level) (number v) (i .deep) lo hi in
     let d : number v .0 - 2 ^ v .level ≡ v .index = omega arith in
     rw (e, d)

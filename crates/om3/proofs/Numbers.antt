@@ -1,6 +1,6 @@
 -- The definitions answer as document 01 says, by computing them. Assumes nothing.
-use mathlib.Core.Path.{_≡_, refl}
-use mathlib.Core.List.{List, map, flatMap}
+use mathlib.Core.Path.{refl}
+use mathlib.Core.List.{flatMap}
 use Prim.Native.Nat.{ℕ}
 use Rattle.om3.specs.Lists.{upFrom, any, every, keep, firstFrom}
 use Rattle.om3.specs.Series.{levels, hourOf}
@@ -19,12 +19,7 @@ use Rattle.om3.specs.Finished.{walk, walkEnd, lastOr, finished}
 use Rattle.om3.specs.Days.{dayChange}
 use Rattle.om3.specs.Text.{split, windowLine, hourLine, withoutEnd}
 use Rattle.om3.specs.Printed.{digitsOf, decimal, columnLines, checkLines, checkNumbers, printed}
-use Rattle.om3.specs.Questions.{replyTo}
-use Rattle.om3.specs.Numbers.{Case, numbers, unmarked, outside, further, printing}
-
--- Each question of a list is replied to as the list says.
-abbrev pub Holds : List Case → Type 0
-Holds cs = map (λ (c : Case). replyTo (c .question)) cs ≡ map (λ (c : Case). c .reply) cs
+use Rattle.om3.specs.Numbers.{Answered, numbers, unmarked, outside, further, printing}
 
 unfoldable computing : Unit {0}
 unfolding upFrom any every keep firstFrom levels hourOf width start hours levelOf look rangeOf coefficient pairCode
@@ -35,26 +30,26 @@ unfolding upFrom any every keep firstFrom levels hourOf width start hours levelO
 computing = tt
 
 -- The numbers marked [P], 1 to 10.
-pub numbers-hold : (c e : ℕ) → Holds (numbers c e)
+pub numbers-hold : (c e : ℕ) → Answered (numbers c e)
 unfolding computing
 numbers-hold c e = refl
 
 -- Numbers 11 and 12, and the record's sizes.
-pub unmarked-hold : Holds unmarked
+pub unmarked-hold : Answered unmarked
 unfolding computing
 unmarked-hold = refl
 
 -- Documents 003 and 004.
-pub outside-hold : Holds outside
+pub outside-hold : Answered outside
 unfolding computing
 outside-hold = refl
 
 -- Where document 01 leaves room or an error comes easily.
-pub further-hold : Holds further
+pub further-hold : Answered further
 unfolding computing
 further-hold = refl
 
 -- What is printed: document 01's example, and texts where it leaves room.
-pub printing-holds : Holds printing
+pub printing-holds : Answered printing
 unfolding computing
 printing-holds = refl

@@ -9,13 +9,13 @@ use borrow.Author.Tests.{eq-eqb, ne-eqb}
 use Rattle.words.specs.Said.{lowOf, highOf}
 use Rattle.om3.specs.Lists.{upFrom}
 use Rattle.om3.specs.Series.{hour, hourOf}
-use Rattle.om3.specs.Nodes.{Node, number, root, left, right, start, hours}
+use Rattle.om3.specs.Nodes.{Node, InTree, number, root, left, right, start, hours}
 use Rattle.om3.specs.Ranges.{hourRange, look, rangeOf}
 use Rattle.om3.specs.Table.{Table, lowDetail, highDetail, lowDetailOf, highDetailOf, coefficient, pairCode}
 use Rattle.om3.specs.Table.{codeOfPlace, tableOf}
 use Rattle.om3.specs.Down.{coefficientAt, lowDetailAt, highDetailAt, codeAt}
 use Rattle.om3.proofs.Lists.{map-up-from-0}
-use Rattle.om3.proofs.Nodes.{InTree, detail-room, pair-half, code-room, width-hour, node-of-number}
+use Rattle.om3.proofs.Nodes.{detail-room, pair-half, code-room, width-hour, node-of-number}
 use Rattle.om3.proofs.Ranges.{both-empty}
 
 module _ (l n : ℕ) (s : List ℤ) where

@@ -9,12 +9,12 @@ use lib.IntN.{ℤ}
 use borrow.Author.Tests.{eq-eqb, ne-eqb}
 use Rattle.words.specs.declared.Range.{Range}
 use Rattle.om3.specs.Series.{Holds, hour, hourOf}
-use Rattle.om3.specs.Nodes.{Node, root, left, right, start}
+use Rattle.om3.specs.Nodes.{Node, InTree, root, left, right, start}
 use Rattle.om3.specs.Ranges.{rangeOf, Readings}
 use Rattle.om3.specs.Table.{Table, pairCode, tableOf}
 use Rattle.om3.specs.Down.{coefficientAt, rootRange, leftOf, rightOf, reachedAt, reached}
 use Rattle.om3.proofs.Tests.{even-or-odd}
-use Rattle.om3.proofs.Nodes.{InTree, pair-yes, pair-no}
+use Rattle.om3.proofs.Nodes.{pair-yes, pair-no}
 use Rattle.om3.proofs.Ranges.{range-halves, readings-range}
 use Rattle.om3.proofs.Down.{left-back, right-back, root-back, first-back, second-back}
 use Rattle.om3.proofs.Places.{root-low, root-high, low-place, high-place, code-place, hour-range}
@@ -95,7 +95,7 @@ module _ (l n : ℕ) (s : List ℤ) (holds : Holds n s) where
     reached-range (suc j) k le b =
         let b′ : k / 2 < 2 ^ j = omega (arith, two-pow-succ j) in
         let v : Node = record { level = j; index = k / 2 } in
-        let i : InTree l v = record { deep = omega arith; low = b′ } in
+        let i : InTree l v = record { deep = omega arith; among = b′ } in
         let up = reached-range j (k / 2) (i .deep) b′ in
         ⊎-elim
         (λ e. rw (← e) (reached-left l T v ∙ rw up (step-left v i le)))

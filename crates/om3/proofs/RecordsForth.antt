@@ -11,11 +11,11 @@ use Rattle.om3.specs.Lists.{upFrom}
 use Rattle.om3.specs.Series.{P}
 use Rattle.om3.specs.Checks.{passes}
 use Rattle.om3.specs.Record.{Bytes, bytesOf, numberFrom, threeBytes, recordLength, recordOf, bytesAt, headerSize}
-use Rattle.om3.specs.Record.{hoursIn, coefficientIn, tableIn, openingChecks}
+use Rattle.om3.specs.Record.{hoursIn, coefficientIn, tableIn, openingChecks, Openable}
 use Rattle.om3.proofs.Lists.{map-up-length}
 use Rattle.om3.proofs.Bytes.{bytes-take, bytes-drop, bytes-forth}
 use Rattle.om3.proofs.ThreeBytes.{three-forth}
-use Rattle.om3.proofs.RecordsOpened.{Openable, opens-formed}
+use Rattle.om3.proofs.RecordsOpened.{opens-formed}
 
 -- Two parts of a list that meet are one part.
 parts-meet : (r : List ℕ) (p w v : ℕ) → bytesAt r p w ++ bytesAt r (p + w) v ≡ bytesAt r p (w + v)

@@ -16,19 +16,12 @@ use Rattle.om3.specs.Series.{badHours, P}
 use Rattle.om3.specs.Table.{Table}
 use Rattle.om3.specs.Checks.{passes, inOrder}
 use Rattle.om3.specs.Refusals.{tableShort}
-use Rattle.om3.specs.Record.{recordLength, recordSize, recordOf, headerSize, lengthIn, versionIn, hoursIn}
-use Rattle.om3.specs.Record.{coefficientIn, tableIn, openingChecks}
+use Rattle.om3.specs.Record.{recordLength, recordOf, headerSize, lengthIn, versionIn, hoursIn}
+use Rattle.om3.specs.Record.{coefficientIn, tableIn, openingChecks, Openable}
 use Rattle.om3.proofs.Lists.{map-up-from-0}
 use Rattle.om3.proofs.Examined.{first-absent}
 use Rattle.om3.proofs.Taken.{good-hours}
 use Rattle.om3.proofs.Records.{record-length-in, record-version-in, record-hours-in, record-size}
-
--- The fields fit one another and the length.
-pub record Openable (r : List ℕ) : Type 0 where
-  pub versioned : versionIn r ≡ version
-  pub timed : badHours (hoursIn r) ≡ false
-  pub stated : lengthIn r ≡ recordLength (hoursIn r)
-  pub sized : length r ≡ recordSize (hoursIn r)
 
 module _ (r : List ℕ) where
   formed-opens : Openable r → openingChecks r ≡ passes

@@ -7,7 +7,7 @@ use mathlib.Core.Logic.{_↔_}
 use Prim.Native.Nat.{ℕ, _+_, _*_, _/_, _≤_}
 use native.Mathlib.Omega.{arith}
 use lib.IntN.{ℤ}
-use lib.ListN.{length, take}
+use lib.ListN.{take}
 use Rattle.words.specs.Constants.{largestHours}
 use Rattle.om3.specs.Series.{Series, levels, P}
 use Rattle.om3.specs.Table.{Table, coefficient, codeOfPlace, tableOf, HasTable}
@@ -117,7 +117,10 @@ module _ (n : ℕ) (r : List ℕ) (s : List ℤ) (series : Series n s) (has : Ha
   record-turned : turnedBack (levels n) (tableIn r) n ≡ s
   record-turned = rw record-table (made-turned n s series)
 
--- So only one series has it.
-pub record-series : (n : ℕ) (r : List ℕ) (s u : List ℤ) → Series n s → HasRecord n s r → Series n u → HasRecord n u r
-    → s ≡ u
-record-series n r s u a p b q = sym (record-turned n r s a p) ∙ record-turned n r u b q
+-- So only one series, of whatever length, has it.
+pub record-series : (n m : ℕ) (r : List ℕ) (s u : List ℤ) → Series n s → HasRecord n s r → Series m u → HasRecord m u r
+    → (n ≡ m) × (s ≡ u)
+record-series n m r s u a p b q =
+    let same : n ≡ m = sym (record-hours n r s a p) ∙ record-hours m r u b q in
+    let turned = ap (λ (k : ℕ). turnedBack (levels k) (tableIn r) k) same in
+    (same, sym (record-turned n r s a p) ∙ turned ∙ record-turned m r u b q)

@@ -11,7 +11,7 @@ use Rattle.words.specs.Said.{lowOf}
 use Rattle.words.specs.declared.Range.{Range}
 use Rattle.om3.specs.Lists.{every}
 use Rattle.om3.specs.Series.{hour}
-use Rattle.om3.specs.Nodes.{Node, number, left, right, start, firstHour}
+use Rattle.om3.specs.Nodes.{Node, InTree, number, left, right, start, firstHour}
 use Rattle.om3.specs.Ranges.{hourRange, Readings}
 use Rattle.om3.specs.Table.{Table}
 use Rattle.om3.specs.Down.{leftHalf, rightHalf, firstOfPair, secondOfPair, coefficientAt, lowDetailAt}
@@ -19,7 +19,7 @@ use Rattle.om3.specs.Down.{highDetailAt, codeAt, reachedAt, reached}
 use Rattle.om3.specs.Sound.{soundRootValues, soundCode, gapFrom, soundPair, soundNode, tableNodes}
 use Rattle.om3.specs.Sound.{soundTable}
 use Rattle.om3.proofs.Tests.{and-left, and-right, even-or-odd}
-use Rattle.om3.proofs.Nodes.{InTree, pair-yes, pair-no, start-hour}
+use Rattle.om3.proofs.Nodes.{pair-yes, pair-no, start-hour}
 use Rattle.om3.proofs.Reached.{reached-left, reached-right}
 use Rattle.om3.proofs.NodeLists.{each-in-table}
 use Rattle.om3.proofs.SoundDetails.{Halves, root-values, Details, details}
@@ -113,12 +113,12 @@ module _ (l n : ℕ) (t : Table) (ok : soundTable l n t ≡ true) where
   readings-at (suc j) k le b =
       let b′ : k / 2 < 2 ^ j = omega (arith, two-pow-succ j) in
       let v : Node = record { level = j; index = k / 2 } in
-      let i : InTree l v = record { deep = omega arith; low = b′ } in
+      let i : InTree l v = record { deep = omega arith; among = b′ } in
       let two = node-halves v i (readings-at j (k / 2) (i .deep) b′) le in
       ⊎-elim (λ e. rw (← e) (two .readings-left)) (λ e. rw (← e) (two .readings-right)) (even-or-odd k)
 
   pub readings-reached : (v : Node) → InTree l v → Readings (reached l t v)
-  readings-reached v i = readings-at (v .level) (v .index) (i .deep) (i .low)
+  readings-reached v i = readings-at (v .level) (v .index) (i .deep) (i .among)
 
   pub halves-joined : (v : Node) → InTree l v → v .level < l
       → Halves (reached l t v) (reached l t (left v)) (reached l t (right v))
@@ -130,7 +130,7 @@ module _ (l n : ℕ) (t : Table) (ok : soundTable l n t ≡ true) where
       let h : suc (l - 1) ≡ l = omega arith in
       let v : Node = record { level = l - 1; index = k / 2 } in
       let b′ : k < 2 ^ suc (l - 1) = rw h b in
-      let i : InTree l v = record { deep = omega arith; low = omega (arith, two-pow-succ (l - 1)) } in
+      let i : InTree l v = record { deep = omega arith; among = omega (arith, two-pow-succ (l - 1)) } in
       let p = readings-reached v i in
       ⊎-elim
       (λ e. rw (← e) (rw (start-hour l (left v) h, h) at (left-out v i p h)))

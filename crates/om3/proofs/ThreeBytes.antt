@@ -66,6 +66,10 @@ module _ (bs : List ℕ) (bytes : Bytes bs) (e : length bs ≡ 3) where
   pub three-forth : threeBytes (signedFrom bs) ≡ bs
   three-forth = rw (signed-forth (numberFrom bs) spelled-small) (rw e at (bytes-forth bs bytes))
 
--- One number, one encoding.
-pub three-one : (y z : ℤ) → InThree y → InThree z → threeBytes y ≡ threeBytes z → y ≡ z
-three-one y z p q e = sym (three-back y p) ∙ ap signedFrom e ∙ three-back z q
+-- One number has one encoding, and one encoding is of one number.
+pub three-one : (bs cs : List ℕ) → Bytes bs → length bs ≡ 3 → Bytes cs → length cs ≡ 3 → signedFrom bs ≡ signedFrom cs
+    → bs ≡ cs
+three-one bs cs p m q n e = sym (three-forth bs p m) ∙ ap threeBytes e ∙ three-forth cs q n
+
+pub three-apart : (y z : ℤ) → InThree y → InThree z → threeBytes y ≡ threeBytes z → y ≡ z
+three-apart y z p q e = sym (three-back y p) ∙ ap signedFrom e ∙ three-back z q

@@ -15,14 +15,14 @@ use Rattle.words.specs.Constants.{largestDetail}
 use Rattle.words.specs.Said.{lowOf, highOf}
 use Rattle.words.specs.declared.Range.{Range}
 use Rattle.words.specs.declared.Range.the-variants.{Empty, Held}
-use Rattle.om3.specs.Nodes.{Node, number}
+use Rattle.om3.specs.Nodes.{Node, InTree, number}
 use Rattle.om3.specs.Ranges.{Readings}
 use Rattle.om3.specs.Table.{Table, lowDetail, highDetail}
 use Rattle.om3.specs.Down.{leftHalf, rightHalf, rootRange, coefficientAt, lowDetailAt, highDetailAt, reached}
 use Rattle.om3.specs.Sound.{soundTable}
 use Rattle.om3.specs.Record.{InThree}
 use Rattle.om3.proofs.Tests.{even-or-odd}
-use Rattle.om3.proofs.Nodes.{InTree, numbered}
+use Rattle.om3.proofs.Nodes.{numbered}
 use Rattle.om3.proofs.SoundDetails.{RootValues, root-values, Details}
 use Rattle.om3.proofs.SoundTables.{root-sound, node-details, readings-reached}
 
@@ -86,7 +86,7 @@ module _ (l n : ℕ) (t : Table) (some : 1 ≤ l) (ok : soundTable l n t ≡ tru
       let b′ : p < 2 ^ suc (l - 1) = rw e at b in
       let w = numbered (l - 1) (p / 2) (omega arith) (omega (arith, two-pow-succ (l - 1))) in
       let v = w .node in
-      let i : InTree l v = record { deep = omega (arith, w .above); low = w .low } in
+      let i : InTree l v = record { deep = omega (arith, w .above); among = w .low } in
       let d = details-of v i (omega (arith, w .above)) in
       ⊎-elim
       (λ z. let y : 2 * number v .0 ≡ p = omega (arith, w .numbered) in rw (← y) (details-low-three _ _ _ d))

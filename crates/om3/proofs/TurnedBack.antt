@@ -16,7 +16,7 @@ use Rattle.words.specs.Said.{lowOf, highOf}
 use Rattle.words.specs.declared.Range.{Range}
 use Rattle.words.specs.declared.Range.the-variants.{Empty, Held}
 use Rattle.om3.specs.Series.{hour, hourOf}
-use Rattle.om3.specs.Nodes.{Node, number, root, left, right, start}
+use Rattle.om3.specs.Nodes.{Node, InTree, number, root, left, right, start}
 use Rattle.om3.specs.Ranges.{hourRange, isEmpty, rangeOf}
 use Rattle.om3.specs.Table.{Table, pairCode, codeOfPlace, tableOf}
 use Rattle.om3.specs.Down.{coefficientAt, lowDetailAt, highDetailAt, codeAt, reachedAt, reached, turnedBack}
@@ -24,7 +24,7 @@ use Rattle.om3.specs.Sound.{soundTable}
 use Rattle.om3.proofs.Tests.{even-or-odd}
 use Rattle.om3.proofs.Lists.{map-up-length, map-up-from-0}
 use Rattle.om3.proofs.Levels.{half-pow}
-use Rattle.om3.proofs.Nodes.{InTree, root-in, left-in, right-in, start-hour, node-of-number}
+use Rattle.om3.proofs.Nodes.{root-in, left-in, right-in, start-hour, node-of-number}
 use Rattle.om3.proofs.Nodes.{numbered}
 use Rattle.om3.proofs.Ranges.{low-hour, range-halves}
 use Rattle.om3.proofs.Places.{root-low, root-high, low-place, high-place, hour-range}
@@ -64,7 +64,7 @@ module _ (l n : ℕ) (t : Table) (ok : soundTable l n t ≡ true) (o : 1 ≤ l) 
   ranges-reached zero v i e =
       let z : v .level ≡ l = omega arith in
       hour-range l n S v z
-      ∙ rw (start-hour l v z) (hour-reached (v .index) (rw z at (i .low)))
+      ∙ rw (start-hour l v z) (hour-reached (v .index) (rw z at (i .among)))
       ∙ ap (λ (j : ℕ). reachedAt l t j (v .index)) (sym z)
   ranges-reached (suc h) v i e =
       let b : v .level < l = omega arith in
@@ -132,7 +132,7 @@ module _ (l n : ℕ) (t : Table) (ok : soundTable l n t ≡ true) (o : 1 ≤ l) 
       let b′ : p < 2 ^ suc (l - 1) = rw e at b in
       let w = numbered (l - 1) (p / 2) (omega arith) (omega (arith, two-pow-succ (l - 1))) in
       let v = w .node in
-      let i : InTree l v = record { deep = omega (arith, w .above); low = w .low } in
+      let i : InTree l v = record { deep = omega (arith, w .above); among = w .low } in
       let h : suc (v .level) < l = omega (arith, w .above) in
       ⊎-elim
       (λ z. let y : 2 * number v .0 ≡ p = omega (arith, w .numbered) in rw (← y) (low-same v i h))
@@ -156,7 +156,7 @@ module _ (l n : ℕ) (t : Table) (ok : soundTable l n t ≡ true) (o : 1 ≤ l) 
   codes-same p b =
       let half : 2 ^ l / 2 ≡ 2 ^ (l - 1) = half-pow l o in
       let v : Node = record { level = l - 1; index = p } in
-      let i : InTree l v = record { deep = omega arith; low = omega arith } in
+      let i : InTree l v = record { deep = omega arith; among = omega arith } in
       let e : p + 2 ^ l / 2 ≡ number v .0 = omega arith in
       let d : number v .0 - 2 ^ l / 2 ≡ p = omega arith in
       rw (e, node-of-number l v i) (code-same v i (omega arith) ∙ ap (λ (q : ℕ). getD (t .codes) q 0) d)

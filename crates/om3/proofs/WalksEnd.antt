@@ -12,14 +12,14 @@ use Rattle.words.specs.declared.Timestamp.{Timestamp}
 use Rattle.words.specs.declared.Reading.{Reading}
 use Rattle.words.specs.declared.Answer.{Answer}
 use Rattle.om3.specs.Series.{hour, hourOf}
-use Rattle.om3.specs.Nodes.{Node, left, right}
+use Rattle.om3.specs.Nodes.{Node, InTree, left, right}
 use Rattle.om3.specs.Ranges.{rangeOf}
 use Rattle.om3.specs.Table.{Table}
 use Rattle.om3.specs.Down.{reached}
 use Rattle.om3.specs.Stopped.{hasReading}
 use Rattle.om3.specs.Finished.{walkEnd, towardsFirst, towardsLast, readingAt}
 use Rattle.om3.specs.Looked.{readingOf, hourAnswer}
-use Rattle.om3.proofs.Nodes.{InTree, left-in, right-in, start-hour}
+use Rattle.om3.proofs.Nodes.{left-in, right-in, start-hour}
 use Rattle.om3.proofs.Ranges.{low-hour}
 use Rattle.om3.proofs.Places.{hour-range}
 use Rattle.om3.proofs.Answers.{joined-right}

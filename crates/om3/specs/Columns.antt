@@ -6,7 +6,7 @@
 --   inColumn x t       whether hour t is in column x
 --   columnHours x      the hours of a column, in order
 --   noHour x           whether a column has none
---   edges n a b w k    what the call for column edges answers
+--   edges n a b w k    what the call for column edges answers; edgesBy c x, where its checks say c
 use mathlib.Core.Bool.{Bool, _&&_}
 use mathlib.Core.List.{List}
 use Prim.Native.Nat.{ℕ, _+_, _-_, _*_, _/_}

@@ -2,7 +2,7 @@
 --
 --   day n d           the hours of day d of n hours
 --   changeOf a        last reading minus first reading of an answer, or no reading
---   dayChange n t d   what the call for the day change answers
+--   dayChange n t d   what the call for the day change answers; dayChangeBy, where its checks say so
 use Prim.Native.Nat.{ℕ, _+_, _*_, min}
 use lib.IntN.{_-ℤ_}
 use Rattle.words.specs.Constants.{dayHours}

@@ -1,15 +1,19 @@
 -- Document 01, "Columns": the finished answer of a column x in a table t of l levels. Assumes nothing.
 --
---   Walk                            a walk down to a single hour: its starting node, and the half it takes at a node
+--   Walk                            a walk down to a single hour: its starting node, and the half it takes at a node.
+--                                   The code calls it a descent; its own walk is the one over the opened nodes
+--   walk, walkEnd                   the nodes of a walk so many levels down, and its end
 --   levelsOf l w                    how many levels it walks down
 --   nodesOf l w, endOf l w          the nodes it walks through, from the starting node down to the pair; its end
 --   towardsFirst v, towardsLast v   the half that the walk to the first, and to the last, reading takes
 --   readingAt v                     the reading of a single hour, as it is reached by going down
+--   firstOr, lastOr, sum            the first and the last node of a list; all numbers of a list together
 --   earliest, latest                the earliest and the latest non-empty inside visited node
+--   firstWalk, lastWalk             the walks to the first and to the last reading
 --   walks r                         the walks of a column with the range r, in their order
---   answer, count                   what a finished column says, and its count
+--   answer, count                   what a finished column says, by its range (answerOver), and its count
 --   examineFinished n               the examination of a finished column in a table of n hours
---   finished n t a b w k            what the call for a finished column answers
+--   finished n t a b w k            what the call for a finished column answers; finishedBy, where its checks say so
 use mathlib.Core.Bool.{cond}
 use mathlib.Core.List.{List, [], _∷_, _++_, map, flatMap}
 use Prim.Native.Nat.{ℕ, zero, suc, _+_, _-_}
@@ -26,7 +30,7 @@ use Rattle.om3.specs.Table.{Table}
 use Rattle.om3.specs.Down.{reached}
 use Rattle.om3.specs.Checks.{Check, passes, refuses}
 use Rattle.om3.specs.Sound.{examine}
-use Rattle.om3.specs.Refusals.{tableShort, checkRoom, columnChecks}
+use Rattle.om3.specs.Refusals.{columnChecks}
 use Rattle.om3.specs.Columns.{column, noHour}
 use Rattle.om3.specs.Stopped.{hasReading, openedNodes, countAt, innerNodes, inner}
 
@@ -117,8 +121,8 @@ module _ (l : ℕ) (t : Table) (x : Column) where
   abbrev pub count : ℕ
   count = countAt l t x l + sum (map (levelsOf l) (walks (inner l t x l)))
 
-  -- Node 0, the opened nodes, then the walks; no node for a column without an hour. Where the nodes examined are sound,
-  -- unsound ones elsewhere change nothing. [columns 5, 16, 18]
+  -- Node 0, the opened nodes, then the walks; no node for a column without an hour. Only these are examined: an unsound
+  -- node elsewhere refuses nothing, and the answer is by the same rules. [columns 5, 16, 18]
   abbrev pub examineFinished : ℕ → Check
   examineFinished n =
       cond (noHour x) passes
@@ -134,4 +138,4 @@ unfoldable pub finished : (n : ℕ) (t : Table) (a b w k : ℕ) → Finished
 finished n t a b w k =
     let x = column a b w k in
     finishedBy (levels n) t x
-    (columnChecks n (checkRoom (tableShort n t)) a b w k [] (examineFinished (levels n) t x n))
+    (columnChecks n t a b w k [] (examineFinished (levels n) t x n))

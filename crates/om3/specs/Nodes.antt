@@ -1,7 +1,7 @@
 -- Document 01, "Readings, hours, nodes": levels, nodes, their halves and the hours they cover, of a table of l levels.
 -- Assumes nothing.
 --
---   Node             node k of level j; single hours are the nodes of level l
+--   Node             node k of level j; single hours are the nodes of level l; InTree, one that a table has
 --   number v         its number, 2^j + k
 --   root             node 1
 --   left v, right v  its halves
@@ -11,7 +11,7 @@
 --   hours l v        the hours it covers, in order
 --   levelOf l i      the level of the node that has number i, for i from 1 to 2·2^l − 1
 --   nodeOf l i       that node
---   Located l v i f w  node v has number i and covers the w hours from hour f on
+--   Located l v i f w   node v has number i and covers the w hours from hour f on
 use mathlib.Core.Path.{_≡_}
 use mathlib.Core.Bool.{Bool, cond}
 use mathlib.Core.List.{List}
@@ -21,10 +21,15 @@ use Rattle.words.specs.declared.Timestamp.{Timestamp}
 use Rattle.words.specs.declared.NodeId.{NodeId}
 use Rattle.om3.specs.Series.{hour, hoursFrom}
 
--- Node k of level j: level j has the nodes 0 to 2^j − 1. [hours 6]
+-- Node k of level j.
 pub record Node : Type 0 where
   pub level : ℕ
   pub index : ℕ
+
+-- It is one of a table of l levels: level j has 2^j nodes, 0 to 2^j − 1; single hours are those of level l. [hours 6]
+pub record InTree (l : ℕ) (v : Node) : Type 0 where
+  pub deep : v .level ≤ l
+  pub among : v .index < 2 ^ v .level
 
 -- Node k of level j has number 2^j + k. [hours 7]
 abbrev pub number : Node → NodeId
@@ -70,7 +75,7 @@ nodeOf l i = record { level = levelOf l i; index = i .0 - 2 ^ levelOf l i }
 -- Node v of a table of l levels has number i and covers the w hours from hour f on: how the code carries a node.
 pub record Located (l : ℕ) (v : Node) (i f w : ℕ) : Type 0 where
   pub deep : v .level ≤ l
-  pub low : v .index < 2 ^ v .level
+  pub among : v .index < 2 ^ v .level
   pub numbered : number v .0 ≡ i
   pub begins : start l v ≡ f
   pub covers : width l v ≡ w

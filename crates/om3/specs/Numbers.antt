@@ -1,13 +1,15 @@
 -- Document 01, "Numbers to hold to": questions with the answers that document 01 gives. That the definitions answer
 -- so is proved in proofs/Numbers. Assumes nothing.
 --
---   Case              a question with its answer
+--   Case, Answered    a question with its answer; each question of a list is answered so
+--   seven             the printer's seven hours
 --   numbers c e       the numbers marked [P], 1 to 10; c and e are the codes that 9 and 10 leave open
 --   unmarked          numbers 11 and 12, and the sizes of the house record
 --   outside           worked examples of documents 003 and 004
 --   further           where document 01 leaves room or an error comes easily
 --   printing          texts and what is printed for them
-use mathlib.Core.List.{List, [], _∷_, _++_}
+use mathlib.Core.Path.{_≡_}
+use mathlib.Core.List.{List, [], _∷_, _++_, map}
 use Prim.Native.Nat.{ℕ, _-_, _*_}
 use Prim.Native.String.{String}
 use lib.IntN.{ℤ, pos, negℤ}
@@ -15,7 +17,7 @@ use lib.ListN.{replicate}
 use Rattle.words.specs.Constants.{gap}
 use Rattle.words.specs.Said.{taken}
 use Rattle.om3.specs.Text.{ascii}
-use Rattle.om3.specs.Questions.{Question, Reply, tableFrom}
+use Rattle.om3.specs.Questions.{Question, Reply, replyTo, tableFrom}
 use Rattle.om3.specs.Questions.{tableFor, makingFor, turningFor, finishedFor, stoppedFor, dayFor, finishedIn}
 use Rattle.om3.specs.Questions.{edgesFor, levelFor, sizeFor, recordFor, writingFor, readingFor, openFor, askFor}
 use Rattle.om3.specs.Questions.{printFor, table, says, bytes}
@@ -23,6 +25,10 @@ use Rattle.om3.specs.Questions.{printFor, table, says, bytes}
 pub record Case : Type 0 where
   pub question : Question
   pub reply : Reply
+
+-- Each question of a list is replied to as the list says.
+abbrev pub Answered : List Case → Type 0
+Answered cs = map (λ (c : Case). replyTo (c .question)) cs ≡ map (λ (c : Case). c .reply) cs
 
 infix 20 _is_
 abbrev _is_ : Question → Reply → Case

@@ -16,12 +16,14 @@
 --   coefficientIn r p, tableIn r    the coefficient at place p, and the whole table, that the bytes state
 --   writingChecks, openingChecks,   the checks of writing, opening and reading, in order
 --   readingChecks
+--   Openable r                      what opening asks of the bytes r: version, hours, length field and size
 --   writingBy c n, unpackingBy c n  what writing and reading a record of n hours answer where their checks say c
---   openedRecord r                  what opening answers
+--   openedRecord r                  what opening answers; openedBy c r, where its checks say c
+--   viewChecks r places p           the checks of asking for place p; askedBy, what is answered by them
 --   askedView r places p            what a view of the bytes r and of P = places answers when asked for place p
 --   askedRecord r p                 what a record answers when it is opened and asked for place p
 use mathlib.Core.Path.{_≡_}
-use mathlib.Core.Bool.{cond, not}
+use mathlib.Core.Bool.{false, cond, not}
 use mathlib.Core.List.{List, [], _∷_, _++_, map, flatMap}
 use Prim.Native.Nat.{ℕ, zero, suc, _+_, _-_, _*_, _/_, _%_, _^_, _<_}
 use lib.Dec.{leb, ltb, eqb}
@@ -35,7 +37,7 @@ use Rattle.words.specs.declared.Unpacking.{Unpacking}
 use Rattle.words.specs.declared.Opening.{Opening}
 use Rattle.words.specs.declared.Asking.{Asking}
 use Rattle.om3.specs.Lists.{upFrom}
-use Rattle.om3.specs.Series.{levels, P}
+use Rattle.om3.specs.Series.{badHours, levels, P}
 use Rattle.om3.specs.Table.{Table, tableOf}
 use Rattle.om3.specs.Checks.{Check, passes, refuses, refuseIf, inOrder}
 use Rattle.om3.specs.Refusals.{checkHours, checkRoom, tableShort, examineTable, tableChecks}
@@ -143,6 +145,13 @@ openingChecks r =
     ∷ refuseIf (ltb (length r) (4 + lengthIn r)) CutShort
     ∷ refuseIf (ltb (4 + lengthIn r) (length r)) BytesAfter
     ∷ [])
+
+-- What passes all of them: the fields fit one another and the length. [refusals 19]
+pub record Openable (r : List ℕ) : Type 0 where
+  pub versioned : versionIn r ≡ version
+  pub timed : badHours (hoursIn r) ≡ false
+  pub stated : lengthIn r ≡ recordLength (hoursIn r)
+  pub sized : length r ≡ recordSize (hoursIn r)
 
 -- Reading: the checks of opening, then 3 and 4. The lent buffers are to hold the table. [refusals 19]
 abbrev pub readingChecks : List ℕ → Table → Check

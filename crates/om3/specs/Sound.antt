@@ -1,13 +1,17 @@
 -- Document 01, "A sound node". Assumes nothing.
 --
---   soundRootValues a b   whether the root values a and b, called node 0, are sound
---   soundDetails r d e    whether a node that is not a pair is, with its range and its details
---   soundCode r c         whether the code of a pair fits its range
---   soundNode l n t v     whether node v of a table of n hours and l levels is sound
---   nodesBelow h v        node v and the nodes below it, h levels in all, in the order of examination
---   tableNodes l          all nodes of a table, pairs the last level; allNodes l has the single hours too
---   soundTable l n t      whether a table is sound
---   examine l n t vs      the examination of node 0 and then of the nodes vs
+--   soundRootValues a b     whether the root values a and b, called node 0, are sound
+--   isDetail d              whether d is a detail; bothAre m d e, whether both are the mark m
+--   ordered r               whether low ≤ high in a range
+--   soundDetails r d e      whether a node that is not a pair is sound, with its range and its details
+--   soundCode r c           whether the code of a pair fits its range
+--   gapFrom n t r           whether hour t may come out as r: from hour n on as a gap
+--   soundNode l n t v       whether node v of a table of n hours and l levels is sound; soundPair, if it is a pair
+--   nodesBelow h v          node v and the nodes below it, h levels in all, in the order of examination
+--   tableNodes l            all nodes of a table, pairs the last level; allNodes l has the single hours too
+--   soundTable l n t        whether a table is sound
+--   examineNode i b         the examination of node i, which is sound or not; examineRoot t, of node 0
+--   examineNodes l n t vs   the examination of a list of nodes; examine, of node 0 and then of the list
 use mathlib.Core.Bool.{Bool, true, cond, not, _&&_, _||_}
 use mathlib.Core.List.{List, [], _∷_, _++_, map}
 use Prim.Native.Nat.{ℕ, zero, suc}
@@ -22,7 +26,7 @@ use Rattle.words.specs.declared.Range.{Range}
 use Rattle.words.specs.declared.Range.the-variants.{Empty, Held}
 use Rattle.words.specs.declared.Refusal.the-variants.{Unsound}
 use Rattle.om3.specs.Lists.{every}
-use Rattle.om3.specs.Checks.{Check, refuseIf, inOrder}
+use Rattle.om3.specs.Checks.{Check, refuseIf, andThen, inOrder}
 use Rattle.om3.specs.Series.{isReading, isGap}
 use Rattle.om3.specs.Nodes.{Node, number, root, left, right, isPair, firstHour}
 use Rattle.om3.specs.Ranges.{isEmpty}
@@ -97,9 +101,13 @@ soundTable l n t = soundRootValues (coefficientAt t 0) (coefficientAt t 1) && ev
 abbrev pub examineNode : NodeId → Bool → Check
 examineNode i isSound = refuseIf (not isSound) (Unsound i)
 
--- Node 0, then the nodes of a list in its order: the first unsound one decides. [sound 1, 6]
+abbrev pub examineRoot : Table → Check
+examineRoot t = examineNode (record { 0 = 0 }) (soundRootValues (coefficientAt t 0) (coefficientAt t 1))
+
+-- The nodes of a list, in its order: the first unsound one decides.
+abbrev pub examineNodes : (l n : ℕ) → Table → List Node → Check
+examineNodes l n t vs = inOrder (map (λ v. examineNode (number v) (soundNode l n t v)) vs)
+
+-- Node 0, then the nodes of a list. [sound 1, 6]
 unfoldable pub examine : (l n : ℕ) → Table → List Node → Check
-examine l n t vs =
-    inOrder
-    (examineNode (record { 0 = 0 }) (soundRootValues (coefficientAt t 0) (coefficientAt t 1))
-    ∷ map (λ v. examineNode (number v) (soundNode l n t v)) vs)
+examine l n t vs = andThen (examineRoot t) (examineNodes l n t vs)

@@ -7,10 +7,11 @@
 --   openedNodes d                the opened nodes in the order of examination
 --   countAt d                    the count at depth d
 --   rangeOver vs                 the least low and the greatest high over some nodes
+--   isOuter d v, isInner d v     a node counts for the outer, for the inner, range at depth d
 --   outer d, inner d             the two ranges at depth d; an absent one is empty
 --   innerNodes d                 the nodes of the inner range, in the order of their hours
 --   examineOpened n d            the examination of a column at depth d, in a table of n hours
---   stopped n t a b w k d        what the call for a column at a depth answers
+--   stopped n t a b w k d        what the call for a column at a depth answers; stoppedBy, where its checks say so
 use mathlib.Core.Bool.{Bool, cond, not, _&&_, _||_}
 use mathlib.Core.List.{List, [], _∷_}
 use Prim.Native.Nat.{ℕ, _+_, _-_, _*_, _/_}
@@ -28,7 +29,7 @@ use Rattle.om3.specs.Table.{Table}
 use Rattle.om3.specs.Down.{reached}
 use Rattle.om3.specs.Checks.{Check, passes, refuses}
 use Rattle.om3.specs.Sound.{allNodes, examine}
-use Rattle.om3.specs.Refusals.{tableShort, checkRoom, checkDepth, columnChecks}
+use Rattle.om3.specs.Refusals.{checkDepth, columnChecks}
 use Rattle.om3.specs.Columns.{column, inColumn, noHour}
 
 -- The node above: v is one of its halves.
@@ -87,8 +88,8 @@ module _ (l : ℕ) (t : Table) (x : Column) where
   abbrev pub inner : ℕ → Range
   inner d = rangeOver l t (innerNodes d)
 
-  -- Node 0, then the opened nodes in the order of examination; no node at all for a column without an hour. Where the
-  -- nodes examined are sound, unsound ones elsewhere change nothing. [columns 5, 16, 18]
+  -- Node 0, then the opened nodes in the order of examination; no node at all for a column without an hour. Only these
+  -- are examined: an unsound node elsewhere refuses nothing, and the answer is by the same rules. [columns 5, 16, 18]
   abbrev pub examineOpened : (n d : ℕ) → Check
   examineOpened n d = cond (noHour x) passes (examine l n t (openedNodes d))
 
@@ -103,4 +104,4 @@ unfoldable pub stopped : (n : ℕ) (t : Table) (a b w k d : ℕ) → Stopped
 stopped n t a b w k d =
     let x = column a b w k in
     stoppedBy (levels n) t x
-    (columnChecks n (checkRoom (tableShort n t)) a b w k (checkDepth n d ∷ []) (examineOpened (levels n) t x n d)) d
+    (columnChecks n t a b w k (checkDepth n d ∷ []) (examineOpened (levels n) t x n d)) d

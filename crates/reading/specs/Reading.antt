@@ -2,7 +2,7 @@
 --
 --   halvesIn cs i range   what the step down from node i answers, with its details as they stand in cs
 --   FourExamined          the contract of the examination of a node of four hours and its two pairs
---   PackedTable n bs qs   n is a number of hours, and bs and qs are the bytes of its P coefficients and P/2 codes
+--   PackedTable n bs qs   n is at most 16,384, and bs and qs are the bytes of its P coefficients and P/2 codes
 --   partsChecks           the checks of reading that are left once the record is opened
 --   PartsRead             the contract of reading the parts of an opened record
 --   RecordRead            the contract of `read_record`: its answer, and the lent coefficients and codes whole

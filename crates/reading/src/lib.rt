@@ -82,41 +82,19 @@ fn examine_below(
     };
     let half = hours / 2;
     let middle = at + half;
+    let next = Timestamp(middle);
     if hours < 16 {
         let verdict = examine_four(n, packed, codes, NodeId(left_number), t, left);
         if let Verdict::Unsound(k) = verdict {
             return Verdict::Unsound(k);
         }
-        return examine_four(
-            n,
-            packed,
-            codes,
-            NodeId(right_number),
-            Timestamp(middle),
-            right,
-        );
+        return examine_four(n, packed, codes, NodeId(right_number), next, right);
     }
-    let first = examine_below(
-        n,
-        packed,
-        codes,
-        NodeId(left_number),
-        Timestamp(at),
-        half,
-        left,
-    );
+    let first = examine_below(n, packed, codes, NodeId(left_number), t, half, left);
     if let Verdict::Unsound(k) = first {
         return Verdict::Unsound(k);
     }
-    examine_below(
-        n,
-        packed,
-        codes,
-        NodeId(right_number),
-        Timestamp(middle),
-        half,
-        right,
-    )
+    examine_below(n, packed, codes, NodeId(right_number), next, half, right)
 }
 
 // Examines a whole table of n hours, of which there are not too many, in its packed coefficients and its codes.

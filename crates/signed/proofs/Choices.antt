@@ -9,7 +9,7 @@ use mir.Syntax.{w32}
 use mir.Val.{SFits, toZ, ofZ}
 use mir.Facts.{toZ-ofZ}
 use lib.Dec.{eqb}
-use borrow.Author.Tests.{eqb-true, eq-eqb, ne-eqb}
+use borrow.Author.Tests.{eqb-true, ne-eqb}
 use Rattle.signed.specs.Choice.{minZ, maxZ, eqZ, isNumber}
 use Rattle.signed.proofs.Parts.{up, dn, ≡-parts, parts-≡, leZ-true, leZ-false, true-leZ, clash}
 
@@ -47,15 +47,6 @@ isNumber-true k (pos n) e = ap pos (eqb-true n k e)
 isNumber-true k (negsuc n) e = clash e
 
 -- A test of the machine compares bits: of a number that fits they are those of k exactly if it is k.
-pub isNumber-yes : (k : ℕ) (z : ℤ) → k < 2 ^ 31 → SFits w32 z → ofZ w32 z ≡ k → isNumber k z ≡ true
-isNumber-yes k (pos n) h f e = eq-eqb n k e
-isNumber-yes k (negsuc n) h f e = absurd (omega (arith, f .sfits))
-
-pub isNumber-no : (k : ℕ) (z : ℤ) → (ofZ w32 z ≡ k → ⊥) → isNumber k z ≡ false
-isNumber-no k (pos n) h = ne-eqb n k h
-isNumber-no k (negsuc n) h = refl
-
--- The same as one equation of tests.
 pub isNumber-bits : (k : ℕ) (z : ℤ) → k < 2 ^ 31 → SFits w32 z → eqb (ofZ w32 z) k ≡ isNumber k z
 isNumber-bits k (pos n) h f = refl
 isNumber-bits k (negsuc n) h f = ne-eqb (ofZ w32 (negsuc n)) k (λ e. omega (arith, f .sfits))

@@ -2,7 +2,7 @@
 --
 --   minZ a b, maxZ a b   the lesser and the greater of a and b
 --   eqZ a b              whether a and b are the same number
---   isNumber k z              whether z is the natural number k
+--   isNumber k z         whether z is the natural number k
 use mathlib.Core.Bool.{Bool, false, cond, _&&_}
 use Prim.Native.Nat.{ℕ}
 use lib.Dec.{eqb}

@@ -1,16 +1,17 @@
--- What is proved beside the demands: going there and back again, single coefficients, the day change, how the answers
--- of the parts of a window make up the whole, and what the printer prints. Assumes nothing.
-use mathlib.Core.{Path._≡_, Bool.false, List.List, List.map, List.flatten}
+-- What is proved beside the demands: making after turning back, reading after writing and writing after reading, single
+-- coefficients, what the boundary tells, the columns of a window, the day change, how the answers of parts make up the
+-- whole, and what the printer prints. Assumes nothing.
+use mathlib.Core.{Path._≡_, Bool.false, List.List, List.map, List.flatten, List.flatMap}
 use Prim.Native.Nat.{ℕ, _-_, _*_, _/_, _^_, _≤_, _<_}
 use lib.{IntN.ℤ, IntN.pos, ListN.length, ListN.getD, ListN.take}
 use denote.Ref.{RefT, now}
 use Rattle.words.specs.Constants.{dayHours}
 use Rattle.words.specs.declared.{Taking.Taking, Writing.Writing, Unpacking.Unpacking, Asking.Asking}
 use Rattle.words.specs.declared.{Finished.Finished, HourLine.HourLine, Refusal.Refusal}
-use Rattle.om3.specs.{Series.Series, Series.levels, Series.P, Series.hoursFrom}
+use Rattle.om3.specs.{Lists.upFrom, Series.Series, Series.levels, Series.P, Series.hoursFrom}
 use Rattle.om3.specs.{Table.Table, Table.tableOf, Table.HasTable, Table.lent}
 use Rattle.om3.specs.{Refusals.tableShort, Calls.filled, Checks.passes, Checks.refuses}
-use Rattle.om3.specs.Record.{Bytes, hoursIn, coefficientIn, tableIn, openingChecks, askedView, askedRecord}
+use Rattle.om3.specs.Record.{Bytes, coefficientIn, openingChecks, askedView, askedRecord}
 use Rattle.om3.specs.{Columns.column, Columns.columnHours, Finished.finished, Joined.joined, Looked.lookThrough}
 use Rattle.om3.specs.{Drawn.finishedCount, Printed.gramsOf, Printed.printingChecks}
 use Rattle.om3.specs.Days.{day, changeOf, dayChange}
@@ -20,6 +21,9 @@ use Rattle.turning.specs.Turning.{TurnedBack}
 use Rattle.view.specs.{declared.View.View, View.viewOf}
 use Rattle.writing.specs.Writing.{RecordWritten}
 use Rattle.reading.specs.Reading.{RecordRead}
+use Rattle.told.specs.Says.{EachSays}
+use Rattle.told.proofs as told
+use Rattle.theorems.specs.Printer.{Prints}
 use Rattle.theorems.proofs as theorems
 
 -- Making after turning back gives the same table.
@@ -28,11 +32,6 @@ make-after-turn-back : (n : ℕ) (cs : List ℤ) (ks : List ℕ) (out out′ : L
     → (cs₂ : List ℤ) (ks₂ : List ℕ) (r : Taking) → Made n out′ cs₁ ks₁ cs₂ ks₂ r
     → (r ≡ Taking.Taken) × (cs₂ ≡ filled (take (P n) cs) cs₁) × (ks₂ ≡ filled (take (P n / 2) ks) ks₁)
 make-after-turn-back = theorems.Calls.made-after
-
--- One table of n hours has one record.
-one-record : (r q : List ℕ) → Bytes r → Bytes q → openingChecks r ≡ passes → openingChecks q ≡ passes
-    → hoursIn r ≡ hoursIn q → tableIn r ≡ tableIn q → r ≡ q
-one-record = om3.RecordsForth.record-one
 
 -- Reading after writing gives the same table and n.
 read-after-write : (n : ℕ) (cs : List ℤ) (ks out out′ : List ℕ) (b : ℕ)
@@ -66,6 +65,15 @@ module _ (bytes : RefT (List ℕ)) (v : View) (opens : v ≡ viewOf bytes) (p : 
   view-refuses : (why : Refusal) → openingChecks (now bytes) ≡ refuses why → u ≡ Asking.Refused Refusal.BadPlace
   view-refuses = theorems.Views.view-refuses bytes v opens p u asks
 
+-- The columns of a window hold its hours, each once and in order.
+window-columns : (a b w : ℕ) → 1 ≤ w → a ≤ b
+    → flatMap columnHours (map (column a b w) (upFrom 0 w)) ≡ hoursFrom a (b - a)
+window-columns = om3.Windows.window-columns
+
+-- What the boundary tells in flat structs is what document 01 says of each answer: its number, its place, its values.
+told-says : EachSays
+told-says = told.Says.each-says
+
 -- From a table that a series has, the change of a day is that of a look through its hours.
 day-change : (n : ℕ) (s : List ℤ) (t : Table) → Series n s → HasTable n s t → (d : ℕ) → dayHours * d < n
     → dayChange n t d ≡ changeOf (lookThrough n s (columnHours (day n d)))
@@ -79,11 +87,11 @@ look-joined = om3.LookedThrough.look-through-cut
 
 -- The printer's calls, by their contracts, print what document 01 prints for the text, however it is cut into pieces,
 -- if it has fewer than 2^64 − 1 bytes.
-printer : (pieces : List (List ℕ)) → length (flatten pieces) < 2 ^ 64 - 1 → theorems.Printer.Prints pieces
+printer : (pieces : List (List ℕ)) → length (flatten pieces) < 2 ^ 64 - 1 → Prints pieces
 printer = theorems.Printer.prints-pieces
 
--- The hours of a text that is taken are a series; each line that is printed is that of an answer, the one that a look
--- through the column's hours gives, with the defined count.
+-- The hours of a text that is taken are a series; each column that is printed is answered, by the answer that a look
+-- through its hours gives, with the defined count.
 module _ (a b w : ℕ) (hours : List HourLine) (ok : printingChecks a b w hours ≡ passes) where
   printed-series : Series (length hours) (map gramsOf hours)
   printed-series = om3.PrintedColumns.text-series a b w hours ok

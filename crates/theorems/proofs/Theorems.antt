@@ -1,12 +1,12 @@
--- The three demands, each in a sentence and a statement, over the definitions of om3/specs, which transcribe document
--- 01. Demand 1 lists its calls in Once and Unwritten, demand 3 what it says of ranges in om3's Drawn. What is
--- proved beside the demands is on the next page, Besides; document 01's numbers are in Figures. Assumes nothing.
-use mathlib.Core.{Path._≡_, Bool.false, List.List, List.map, List.flatMap, Logic._↔_}
-use Prim.Native.Nat.{ℕ, _-_, _≤_}
+-- The three demands over the definitions of om3/specs, which transcribe document 01. Demand 1 lists its calls in Once
+-- and Unwritten, demand 3 its ranges in om3's Drawn. What else is proved: Besides, Laws, Figures. Assumes nothing.
+use mathlib.Core.{Path._≡_, Bool.false, List.List, Logic._↔_}
+use Prim.Native.Nat.{ℕ, _≤_}
 use lib.{IntN.ℤ, ListN.length, ListN.take}
-use Rattle.words.specs.declared.{Taking.Taking, Unpacking.Unpacking, Finished.Finished, Stopped.Stopped}
-use Rattle.om3.specs.{Lists.upFrom, Series.Series, Series.levels, Series.hoursFrom, Calls.filled}
-use Rattle.om3.specs.Table.{Table, tableOf, HasTable, lent}
+use Rattle.words.specs.declared.{Refusal.Refusal, Taking.Taking, Unpacking.Unpacking}
+use Rattle.words.specs.declared.{Finished.Finished, Stopped.Stopped}
+use Rattle.om3.specs.{Series.Series, Series.levels, Table.Table, Table.tableOf, Table.HasTable, Table.lent}
+use Rattle.om3.specs.{Checks.Check, Checks.refuses, Checks.inOrder, Checks.FirstCause, Calls.filled}
 use Rattle.om3.specs.{Refusals.tableShort, Refusals.Enough, Record.Bytes, Record.HasRecord, Record.hoursIn}
 use Rattle.om3.specs.{Columns.column, Columns.columnHours, Finished.finished, Stopped.stopped, Looked.lookThrough}
 use Rattle.om3.specs.Drawn.{Drawn, outerAt, innerAt, countOf, finishedCount, Ranged}
@@ -14,18 +14,22 @@ use Rattle.om3.proofs as om3
 use Rattle.making.specs.Making.{Made}
 use Rattle.turning.specs.Turning.{TurnedBack}
 use Rattle.reading.specs.Reading.{RecordRead}
+use Rattle.theorems.specs.{Once.EachCall, Unwritten.NothingWritten}
 use Rattle.theorems.proofs as theorems
 
--- Demand 1. Whatever is given, the contract of each call allows one answer and one content of each lent buffer ..
-each-call : theorems.Once.EachCall
+-- Demand 1. Each call may be made with anything; its contract allows one answer and one content of each lent buffer ..
+each-call : EachCall
 each-call = theorems.Once.each-call
 
--- .. and a call that is refused writes nothing into the buffers lent to it.
-nothing-written : theorems.Unwritten.NothingWritten
+-- .. a list of checks, as Refusals, Record and Printed have one for each call, refuses by its first cause alone ..
+first-cause : (cs : List Check) (why : Refusal) → (inOrder cs ≡ refuses why) ↔ FirstCause cs why
+first-cause = om3.Examined.first-cause
+
+-- .. and making, turning back, writing and reading that are refused write nothing into the buffers lent to them.
+nothing-written : NothingWritten
 nothing-written = theorems.Unwritten.nothing-written
 
--- Demand 2. With room lent, making takes a series, the first n numbers lent, and writes its table, which is OM3's with
--- document 01's rules for gaps.
+-- Demand 2. With room lent, making takes a series, the first n numbers lent, and writes its table (om3's Table).
 make-writes : (n : ℕ) (s cs : List ℤ) (ks : List ℕ) → Series n (take n s) → tableShort n (lent cs ks) ≡ false
     → (cs′ : List ℤ) (ks′ : List ℕ) (r : Taking) → Made n s cs ks cs′ ks′ r
     → (let t = tableOf (levels n) n (take n s) in (r ≡ Taking.Taken) × (cs′ ≡ filled (t .coefficients) cs)
@@ -37,12 +41,12 @@ module _ (n : ℕ) (s cs cs′ : List ℤ) (ks ks′ : List ℕ) (made : Made n 
   make-takes : Series n (take n s) × HasTable n (take n s) (lent cs′ ks′)
   make-takes = theorems.Calls.made-series n s cs cs′ ks ks′ made
 
-  -- Turned back, a table that was made gives each reading and each gap at its own hour.
+  -- Turned back, with room for n hours, it gives each reading and each gap at its own hour.
   turn-back-after-make : (out out′ : List ℤ) (r : Taking) → n ≤ length out → TurnedBack n cs′ ks′ out out′ r
       → (r ≡ Taking.Taken) × (out′ ≡ filled (take n s) out)
   turn-back-after-make = theorems.Calls.turned-back-after n s cs cs′ ks ks′ made
 
--- With room lent, turning back takes a table exactly if some series of n hours has it ..
+-- For 1 to 16,384 hours and with room lent, turning back takes a table exactly if some series of n hours has it ..
 module _ (n : ℕ) (cs : List ℤ) (ks : List ℕ) (out : List ℤ) (room : Enough n cs ks (length out) n)
     (out′ : List ℤ) (r : Taking) (done : TurnedBack n cs ks out out′ r) where
   turn-back-exactly : (r ≡ Taking.Taken) ↔ ((s : List ℤ) × Series n s × HasTable n s (lent cs ks))
@@ -61,8 +65,7 @@ only-series = om3.Demand2.only-series
 module _ (r : List ℕ) (bytes : Bytes r) (cs : List ℤ) (ks : List ℕ)
     (room : tableShort (hoursIn r) (lent cs ks) ≡ false) (cs′ : List ℤ) (ks′ : List ℕ) (u : Unpacking)
     (done : RecordRead r cs ks cs′ ks′ u) where
-  read-exactly : (u ≡ Unpacking.Hours (hoursIn r))
-      ↔ ((s : List ℤ) × Series (hoursIn r) s × HasRecord (hoursIn r) s r)
+  read-exactly : (u ≡ Unpacking.Hours (hoursIn r)) ↔ ((s : List ℤ) × Series (hoursIn r) s × HasRecord (hoursIn r) s r)
   read-exactly = theorems.Records.read-exactly r bytes cs ks room cs′ ks′ u done
 
   -- .. and writes the table of that series, leaving the rest of both buffers ..
@@ -71,17 +74,14 @@ module _ (r : List ℕ) (bytes : Bytes r) (cs : List ℤ) (ks : List ℕ)
       (cs′ ≡ filled (t .coefficients) cs) × (ks′ ≡ filled (t .codes) ks))
   read-writes = theorems.Records.read-writes r bytes cs ks room cs′ ks′ u done
 
--- .. which is the only one.
-one-series : (n : ℕ) (r : List ℕ) (s u : List ℤ) → Series n s → HasRecord n s r → Series n u → HasRecord n u r → s ≡ u
+-- .. which is the only one, of whatever length.
+one-series : (n m : ℕ) (r : List ℕ) (s u : List ℤ) → Series n s → HasRecord n s r → Series m u → HasRecord m u r
+    → (n ≡ m) × (s ≡ u)
 one-series = om3.RecordsTaken.record-series
 
--- Demand 3. The columns of a window hold its hours, each once and in order.
-window-columns : (a b w : ℕ) → 1 ≤ w → a ≤ b
-    → flatMap columnHours (map (column a b w) (upFrom 0 w)) ≡ hoursFrom a (b - a)
-window-columns = om3.Windows.window-columns
-
--- From a table that a series has, as one made from readings does, a finished column answers the first, last, lowest and
--- highest reading as a look through its hours gives them, or that there is none, and the defined count ..
+-- Demand 3. From a table that a series has, as one made from readings does, a finished column of a window answers the
+-- first and last reading with their hours, the lowest and the highest, as a look through its hours gives them, or that
+-- there is none, and the defined count ..
 module _ (n : ℕ) (s : List ℤ) (t : Table) (series : Series n s) (has : HasTable n s t)
     (a b w k : ℕ) (drawn : Drawn n a b w k) where
   finished-column : (let x = column a b w k in
@@ -94,6 +94,6 @@ module _ (n : ℕ) (s : List ℤ) (t : Table) (series : Series n s) (has : HasTa
   stopped-column = om3.Demand3.stopped-drawn n s t series has a b w k drawn
 
   -- The outer range holds every reading of the column, the inner lies between its lowest and highest, a deeper stop
-  -- never widens the outer or narrows the inner, at depth l both agree; counts are at most 4·d − 1, d ≥ 1, and 6·l − 1.
+  -- never widens the outer or narrows the inner, at depth l both agree; counts are at most 1, 4·d − 1 and 6·l − 1.
   column-ranged : Ranged n s t (column a b w k)
   column-ranged = om3.Demand3.ranged-drawn n s t series has a b w k drawn

@@ -1,8 +1,5 @@
--- Demand 1 for the calls: where a call is refused, each buffer lent to it is as it was, since what it leaves there is
--- decided by the same checks as its answer. Assumes nothing.
---
---   NothingWritten   each call that is refused leaves each lent buffer as it was; a call of the boundary is refused
---                    where the number that it tells is not 0
+-- Where a call is refused, each buffer lent to it is as it was, since what it leaves there is decided by the same
+-- checks as its answer. Assumes nothing.
 use mathlib.Core.Path.{_≡_, refl, ap, _∙_}
 use mathlib.Core.List.{List}
 use Prim.Native.Nat.{ℕ}
@@ -28,25 +25,7 @@ use Rattle.told.specs.declared.records.ToldHours.{ToldHours}
 use Rattle.told.specs.Tables.{takingTold}
 use Rattle.told.specs.Records.{writingTold, unpackingTold}
 use Rattle.sagivelume.specs.Boundary.{MakeTold, TurnBackTold, WriteTold, ReadTold}
-
-pub record NothingWritten : Type 0 where
-  pub make : (n : ℕ) (s cs cs′ : List ℤ) (ks ks′ : List ℕ) (why : Refusal)
-      → Made n s cs ks cs′ ks′ (Taking.Refused why) → (cs′ ≡ cs) × (ks′ ≡ ks)
-  pub turn-back : (n : ℕ) (cs : List ℤ) (ks : List ℕ) (out out′ : List ℤ) (why : Refusal)
-      → TurnedBack n cs ks out out′ (Taking.Refused why) → out′ ≡ out
-  pub write-record : (n : ℕ) (cs : List ℤ) (ks out out′ : List ℕ) (why : Refusal)
-      → RecordWritten n cs ks out out′ (Writing.Refused why) → out′ ≡ out
-  pub read-record : (bs : List ℕ) (cs cs′ : List ℤ) (ks ks′ : List ℕ) (why : Refusal)
-      → RecordRead bs cs ks cs′ ks′ (Unpacking.Refused why) → (cs′ ≡ cs) × (ks′ ≡ ks)
-  -- The boundary's calls.
-  pub make-told : (n : ℕ) (s cs cs′ : List ℤ) (ks ks′ : List ℕ) (r : Told) → ¬ (r .number ≡ 0)
-      → MakeTold n s cs ks cs′ ks′ r → (cs′ ≡ cs) × (ks′ ≡ ks)
-  pub turn-back-told : (n : ℕ) (cs : List ℤ) (ks : List ℕ) (out out′ : List ℤ) (r : Told) → ¬ (r .number ≡ 0)
-      → TurnBackTold n cs ks out out′ r → out′ ≡ out
-  pub write-record-told : (n : ℕ) (cs : List ℤ) (ks out out′ : List ℕ) (r : ToldBytes) → ¬ (r .number ≡ 0)
-      → WriteTold n cs ks out out′ r → out′ ≡ out
-  pub read-record-told : (bs : List ℕ) (cs cs′ : List ℤ) (ks ks′ : List ℕ) (r : ToldHours) → ¬ (r .number ≡ 0)
-      → ReadTold bs cs ks cs′ ks′ r → (cs′ ≡ cs) × (ks′ ≡ ks)
+use Rattle.theorems.specs.Unwritten.{NothingWritten}
 
 -- A call that answers a refusal was refused by its checks.
 writing-refuses : (c : Check) (n : ℕ) (why : Refusal) → Writing.Refused why ≡ writingBy c n → c ≡ refuses why

@@ -1,5 +1,4 @@
--- What the contracts of a view's calls say together: `open` gave the view v of these bytes, and `ask`, asked for place
--- p of it, answered u. Assumes nothing.
+-- What the contracts of the view's `open` and `ask` say together. Assumes nothing.
 use mathlib.Core.Path.{_≡_, sym, ap, _∙_}
 use mathlib.Core.List.{List}
 use Prim.Native.Nat.{ℕ, _<_}
@@ -14,6 +13,7 @@ use Rattle.view.specs.declared.View.{View}
 use Rattle.view.specs.View.{viewPlaces, viewOf}
 use Rattle.view.proofs.Viewed as viewed
 
+-- `open` gave the view v of these bytes, and `ask`, asked for place p of it, answered u.
 module _ (bytes : RefT (List ℕ)) (v : View) (opens : v ≡ viewOf bytes) (p : ℕ) (u : Asking)
     (asks : u ≡ askedView (now (v .bytes)) (v .places) p) where
   abbrev r : List ℕ

@@ -73,8 +73,7 @@ module _ (l : ℕ) (t : Table) where
       (λ q.
       stays k h (right v) (withHours l t h (left v) out) z′ b′
       (written k h (left v) out (left-located at two) z′ low q b))
-      (λ q.
-      written k h (right v) (withHours l t h (left v) out) (right-located at two) z′ q (omega arith) b′)
+      (λ q. written k h (right v) (withHours l t h (left v) out) (right-located at two) z′ q (omega arith) b′)
       (below-or-not k (f + w / 2))
 
   pub all-written : (n : ℕ) (out : List ℤ) → n ≤ 2 ^ l → length out ≡ n → withHours l t l root out ≡ turnedBack l t n

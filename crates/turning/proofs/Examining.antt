@@ -15,7 +15,7 @@ use Rattle.om3.specs.Ranges.{Readings}
 use Rattle.om3.specs.Table.{Table, lent}
 use Rattle.om3.specs.Down.{leftHalf, rightHalf, firstOfPair, secondOfPair, reached}
 use Rattle.om3.specs.Checks.{Check, andThen, inOrder}
-use Rattle.om3.specs.Sound.{soundDetails, soundCode, gapFrom, soundNode, nodesBelow, examineNode}
+use Rattle.om3.specs.Sound.{soundDetails, soundCode, gapFrom, soundNode, nodesBelow, examineNode, examineNodes}
 use Rattle.om3.proofs.Nodes.{pair-yes, pair-no, pair-half, start-hour}
 use Rattle.om3.proofs.Located.{above-hours, above-pairs, at-pair, pair-width, left-located, right-located}
 use Rattle.om3.proofs.Reached.{reached-left, reached-right}
@@ -24,7 +24,7 @@ use Rattle.om3.proofs.Examined.{in-order-append, then-passes}
 use Rattle.node.specs.declared.Halves.{Halves}
 use Rattle.node.specs.Steps.{halvesOf, pairOf}
 use Rattle.turning.specs.declared.Verdict.{Verdict}
-use Rattle.turning.specs.Turning.{checkOf, examineNodes, pairAt, Examined, PairExamined, PairsExamined}
+use Rattle.turning.specs.Turning.{checkOf, pairAt, Examined, PairExamined, PairsExamined}
 use Rattle.turning.proofs.Answers.{Stepped, stepped, not-stepped}
 
 -- The halves of a sound node that is not a pair are ranges of readings.

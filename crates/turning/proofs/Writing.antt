@@ -16,7 +16,7 @@ use Rattle.om3.specs.Down.{leftHalf, rightHalf, firstOfPair, secondOfPair, reac
 use Rattle.om3.specs.Sound.{soundDetails, soundCode, soundNode, nodesBelow}
 use Rattle.om3.proofs.Tests.{and-left, and-right}
 use Rattle.om3.proofs.Nodes.{pair-yes, pair-no}
-use Rattle.om3.proofs.Located.{above-hours, above-pairs, at-pair, left-located, right-located}
+use Rattle.om3.proofs.Located.{one-more, above-pairs, at-pair, left-located, right-located}
 use Rattle.om3.proofs.Reached.{reached-left, reached-right}
 use Rattle.om3.proofs.NodeLists.{every-append}
 use Rattle.node.specs.declared.Halves.{Halves}
@@ -77,15 +77,12 @@ module _ (cs : List ℤ) (ks : List ℕ) (i f w : ℕ) (range : Range) (out : Li
       below-right : every (soundNode l n T) (nodesBelow (l - suc (v .level)) (right v)) ≡ true
 
     module _ (l n : ℕ) (v : Node) (at : Located l v i f w) (g : range ≡ reached l T v) where
-      one-more : l - v .level ≡ suc (l - suc (v .level))
-      one-more = let p = above-hours at two in omega arith
-
       all-sound : every (soundNode l n T) (nodesBelow (l - v .level) v) ≡ true → AllSound l n v
       unfolding nodesBelow every
       all-sound ok =
           let L = nodesBelow (l - suc (v .level)) (left v) in
           let R = nodesBelow (l - suc (v .level)) (right v) in
-          let s = rw one-more at ok in
+          let s = rw (one-more at two) at ok in
           let q = sym (every-append (soundNode l n T) L R) ∙ and-right (soundNode l n T v) _ s in
           record {
             node = unfold soundNode in
@@ -112,7 +109,7 @@ module _ (cs : List ℤ) (ks : List ℕ) (i f w : ℕ) (range : Range) (out : Li
           let s = all-sound l n v at g ok in
           let x : a ≡ reached l T (left v) = rw (reached-left l T v, p, at .numbered, ← g) (H .first) in
           let y : b ≡ reached l T (right v) = rw (reached-right l T v, p, at .numbered, ← g) (H .second) in
-          rw (one-more l n v at g)
+          rw (one-more at two)
           (R .below l n (right v) (right-located at two) y (s .below-right)
           ∙ ap (withHours l T (l - suc (v .level)) (right v))
           (L .below l n (left v) (left-located at two) x (s .below-left)))

@@ -1,7 +1,6 @@
 -- What examining and turning back promise. Cited by the contracts of this crate and of the boundary. Assumes nothing.
 --
 --   checkOf r             what a verdict says, as a check
---   examineNodes          the examination of a list of nodes
 --   pairAt n ks f r       the hours of the pair at hours f and f + 1, or that it is unsound
 --   Examined              the contract of the examination below a node; PairExamined, of a pair's; PairsExamined, of
 --                         two neighbouring pairs'
@@ -10,7 +9,7 @@
 --   TurnedBack            the contract of `turn_back`: its answer, and the lent hours whole
 use mathlib.Core.Path.{_≡_}
 use mathlib.Core.Bool.{true, cond, _&&_}
-use mathlib.Core.List.{List, map}
+use mathlib.Core.List.{List}
 use Prim.Native.Nat.{ℕ, zero, suc, _+_, _-_, _/_, _≤_, _<_}
 use lib.IntN.{ℤ}
 use lib.ListN.{length, getD, set}
@@ -21,11 +20,11 @@ use Rattle.words.specs.declared.Refusal.the-variants as refusal
 use Rattle.words.specs.declared.Taking.{Taking}
 use Rattle.om3.specs.Lists.{every}
 use Rattle.om3.specs.Series.{levels, hour}
-use Rattle.om3.specs.Nodes.{Node, number, left, right, Located}
+use Rattle.om3.specs.Nodes.{Node, left, right, Located}
 use Rattle.om3.specs.Table.{Table, lent}
 use Rattle.om3.specs.Down.{firstOfPair, secondOfPair, reached, turnedBack}
-use Rattle.om3.specs.Checks.{Check, passes, refuses, inOrder}
-use Rattle.om3.specs.Sound.{soundCode, gapFrom, soundNode, nodesBelow, examineNode}
+use Rattle.om3.specs.Checks.{Check, passes, refuses}
+use Rattle.om3.specs.Sound.{soundCode, gapFrom, soundNode, nodesBelow, examineNodes}
 use Rattle.om3.specs.Refusals.{turningBackChecks}
 use Rattle.om3.specs.Calls.{takingBy, writtenBy}
 use Rattle.node.specs.declared.Halves.{Halves}
@@ -35,10 +34,6 @@ use Rattle.turning.specs.declared.Verdict.{Verdict}
 abbrev pub checkOf : Verdict → Check
 checkOf Verdict.Sound = passes
 checkOf (Verdict.Unsound i) = refuses (refusal.Unsound i)
-
--- The nodes of a list, examined in its order.
-abbrev pub examineNodes : (l n : ℕ) → Table → List Node → Check
-examineNodes l n t vs = inOrder (map (λ v. examineNode (number v) (soundNode l n t v)) vs)
 
 -- The two hours of the pair at hours f and f + 1 with its range, or that it is unsound. [sound 4]
 abbrev pub pairAt : (n : ℕ) → List ℕ → ℕ → Range → Halves

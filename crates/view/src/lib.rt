@@ -7,7 +7,7 @@ ghost use Rattle.view.specs.View.{viewPlaces, viewOf};
 
 // A record's bytes, and how many coefficients it has. An enum that holds a reference is not in the language, so `open`
 // cannot answer "refused, or a view": the view of bytes that opening refuses has 0 places, and each place asked for is
-// refused with 13. Who wants to know why asks `opening::open_record`.
+// refused with 13. Whoever wants to know why asks `opening::open_record`.
 pub struct View<'a> {
     pub bytes: &'a [u8],
     pub places: usize,
@@ -47,7 +47,8 @@ pub fn ask_once(bytes: &[u8], place: usize) -> Asking
     ask(open(bytes), place)
 }
 
-// Opens a record and asks its view. Refusals of opening, then 13.
+// Opens a record and asks its view. Refusals of opening, then 13. The view opens the bytes once more: one made here, of
+// the places that are known by then, would be one more function to walk by hand.
 pub fn ask_record(bytes: &[u8], place: usize) -> Asking
     ensures { λ r. ⌜ r ≡ askedRecord (now (bytes .entry)) place ⌝ }
 {

@@ -11,7 +11,7 @@ use borrow.Author.Tests.{ltb-false}
 use Rattle.words.specs.declared.Range.{Range}
 use Rattle.om3.specs.Ranges.{Readings}
 use Rattle.om3.proofs.Rooms.{left-room, right-room, places-room}
-use Rattle.walking.specs.Nodes.{Below, pairOf, leftReached, rightReached}
+use Rattle.walking.specs.Nodes.{Below, isPairOf, leftReached, rightReached}
 use Rattle.walking.specs.Seen.{bothInner}
 use Rattle.walking.specs.Walking.{Steps, InnerBelow}
 use Rattle.walking.specs.declared.Reached.{Reached}
@@ -19,7 +19,7 @@ use Rattle.walking.specs.declared.Inner.{Inner}
 
 -- What is lent for a node of two hours or more is lent for a step down from it and for its halves.
 module _ (cs : List ℤ) (ks : List ℕ) (at : Reached) (below : Below cs ks at) (two : 2 ≤ at .hours) where
-  pub steps : Steps cs ks (at .id) (at .from) (pairOf (at .hours)) (at .range)
+  pub steps : Steps cs ks (at .id) (at .from) (isPairOf (at .hours)) (at .range)
   steps =
       record {
         readings = below .readings;

@@ -18,7 +18,7 @@ use Rattle.om3.proofs.Tests.{and-left, and-right, both-true, below-or-not}
 use Rattle.om3.proofs.Located.{left-located, right-located}
 use Rattle.om3.proofs.Intervals.{shares-overlap, overlap-shares, inside-within, within-inside}
 use Rattle.walking.specs.Nodes.{At, leftReached, rightReached, touchesOf, insideOf, openedOf}
-use Rattle.walking.specs.Walking.{Asked}
+use Rattle.walking.specs.Walking.{StopsAt}
 use Rattle.walking.specs.declared.Reached.{Reached}
 
 -- Two tests that imply each other are the same.
@@ -86,7 +86,7 @@ module _ {l : ℕ} {t : Table} {v : Node} {at : Reached} (here : At l t v at) wh
       le-ltb stop w (omega (arith, pow-mono more)) ∙ sym (le-ltb _ _ h))
       (below-or-not (v .level) d)
 
-  pub opened-is : {d stop : ℕ} {x : Column} → Asked l d x stop → openedOf x stop at ≡ opened l t x d v
+  pub opened-is : {d stop : ℕ} {x : Column} → StopsAt l d x stop → openedOf x stop at ≡ opened l t x d v
   unfolding opened
   opened-is {d} {stop} {x} asked =
       rw (touches-is x (asked .some), inside-is x, deep-is d stop (asked .deep) (asked .stops))

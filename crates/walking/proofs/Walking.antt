@@ -15,18 +15,17 @@ use Rattle.om3.specs.Nodes.{Node, number, left, right}
 use Rattle.om3.specs.Table.{Table, lent}
 use Rattle.om3.specs.Down.{reached}
 use Rattle.om3.specs.Checks.{Check, andThen, inOrder}
-use Rattle.om3.specs.Sound.{soundNode, nodesBelow, examineNode}
+use Rattle.om3.specs.Sound.{soundNode, nodesBelow, examineNode, examineNodes}
 use Rattle.om3.specs.Stopped.{hasReading, shares, inside, opened, visited, isOuter, isInner}
-use Rattle.om3.proofs.Located.{above-hours}
+use Rattle.om3.proofs.Located.{one-more}
 use Rattle.om3.proofs.Examined.{in-order-append}
 use Rattle.om3.proofs.BelowOpened.{visited-left, visited-right, opened-kept, unopened-kept, outer-kept, outer-end}
 use Rattle.om3.proofs.BelowOpened.{inner-kept, inner-end, range-append}
 use Rattle.node.specs.declared.Halves.{Halves}
-use Rattle.turning.specs.Turning.{examineNodes}
 use Rattle.turning.proofs.Answers.{Stepped, stepped, not-stepped}
 use Rattle.walking.specs.Nodes.{At, Below, leftReached, rightReached, touchesOf, insideOf, openedOf}
 use Rattle.walking.specs.Seen.{unopenedOf, bothSeen, seenOf}
-use Rattle.walking.specs.Walking.{SteppedDown, Asked, Walks, WalkedFrom}
+use Rattle.walking.specs.Walking.{SteppedDown, StopsAt, Walks, WalkedFrom}
 use Rattle.walking.specs.declared.Reached.{Reached}
 use Rattle.walking.specs.declared.Seen.{Seen}
 use Rattle.walking.specs.declared.Walked.{Walked}
@@ -50,7 +49,7 @@ module _ (n : ℕ) (cs : List ℤ) (ks : List ℕ) (x : Column) (stop : ℕ) whe
 
   -- A node that is not opened.
   module _ (c : ℕ) (at : Reached) (closed : openedOf x stop at ≡ false) where
-    module _ (l d : ℕ) (v : Node) (asked : Asked l d x stop) (here : At l T v at)
+    module _ (l d : ℕ) (v : Node) (asked : StopsAt l d x stop) (here : At l T v at)
         (seen : visited l T x d v ≡ true) where
       not-opened : opened l T x d v ≡ false
       not-opened = sym (opened-is here asked) ∙ closed
@@ -94,12 +93,9 @@ module _ (n : ℕ) (cs : List ℤ) (ks : List ℕ) (x : Column) (stop : ℕ) whe
 
   -- A node that is opened.
   module _ (c : ℕ) (at : Reached) (o : openedOf x stop at ≡ true) (two : 2 ≤ at .hours) (lent : Below cs ks at) where
-    module _ (l d : ℕ) (v : Node) (asked : Asked l d x stop) (here : At l T v at) where
+    module _ (l d : ℕ) (v : Node) (asked : StopsAt l d x stop) (here : At l T v at) where
       is-opened : opened l T x d v ≡ true
       is-opened = sym (opened-is here asked) ∙ o
-
-      one-more : l - v .level ≡ suc (l - suc (v .level))
-      one-more = let h = above-hours (here .located) two in omega arith
 
       abbrev below : Node → List Node
       below u = nodesBelow (suc (l - u .level)) u
@@ -109,15 +105,15 @@ module _ (n : ℕ) (cs : List ℤ) (ks : List ℕ) (x : Column) (stop : ℕ) whe
 
       opened-list : keep (opened l T x d) (below v)
           ≡ v ∷ keep (opened l T x d) (below (left v)) ++ keep (opened l T x d) (below (right v))
-      opened-list = rw one-more (opened-kept l T x d _ v is-opened)
+      opened-list = rw (one-more (here .located) two) (opened-kept l T x d _ v is-opened)
 
       outer-list : keep (isOuter l T x d) (below v)
           ≡ keep (isOuter l T x d) (below (left v)) ++ keep (isOuter l T x d) (below (right v))
-      outer-list = rw one-more (outer-kept l T x d _ v is-opened)
+      outer-list = rw (one-more (here .located) two) (outer-kept l T x d _ v is-opened)
 
       inner-list : keep (isInner l T x d) (below v)
           ≡ keep (isInner l T x d) (below (left v)) ++ keep (isInner l T x d) (below (right v))
-      inner-list = rw one-more (inner-kept l T x d _ v is-opened)
+      inner-list = rw (one-more (here .located) two) (inner-kept l T x d _ v is-opened)
 
       -- It is examined first, then what is opened below its left half, then below its right half.
       opened-checks : checks v
@@ -175,7 +171,7 @@ module _ (n : ℕ) (cs : List ℤ) (ks : List ℕ) (x : Column) (stop : ℕ) whe
       second-lent : Below cs ks second
       second-lent = right-below cs ks at lent two q (step .readings r q refl .1)
 
-      module _ (l d : ℕ) (v : Node) (asked : Asked l d x stop) (here : At l T v at) where
+      module _ (l d : ℕ) (v : Node) (asked : StopsAt l d x stop) (here : At l T v at) where
         abbrev S : Stepped (soundNode l n T v) (reached l T (left v)) (reached l T (right v)) r q
         S = stepped (soundNode l n T v) (reached l T (left v)) (reached l T (right v)) (sym (step .halves l v here))
 
@@ -216,7 +212,7 @@ module _ (n : ℕ) (cs : List ℤ) (ks : List ℕ) (x : Column) (stop : ℕ) whe
           }
 
       module _ (a : Seen) (F : From (c + 1) first (Walked.Through a)) where
-        left-passes : (l d : ℕ) (v : Node) (asked : Asked l d x stop) (here : At l T v at)
+        left-passes : (l d : ℕ) (v : Node) (asked : StopsAt l d x stop) (here : At l T v at)
             → checks l d v asked here v ≡ checks l d v asked here (right v)
         left-passes l d v asked here =
             halves-check l d v asked here ∙ rw (sym (left-walks l d v asked here (Walked.Through a) F .examined))

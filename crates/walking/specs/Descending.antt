@@ -22,7 +22,7 @@ use Rattle.om3.specs.Ranges.{isEmpty}
 use Rattle.om3.specs.Table.{Table, lent}
 use Rattle.om3.specs.Checks.{Check, passes, refuses}
 use Rattle.om3.specs.Finished.{walk, walkEnd, towardsFirst, towardsLast, readingAt}
-use Rattle.turning.specs.Turning.{examineNodes}
+use Rattle.om3.specs.Sound.{examineNodes}
 use Rattle.walking.specs.Nodes.{At}
 use Rattle.walking.specs.declared.Reached.{Reached}
 use Rattle.walking.specs.declared.Towards.{Towards}

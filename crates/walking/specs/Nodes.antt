@@ -3,7 +3,7 @@
 --   reachedOf l t v          node v of a table t of l levels, as the code carries it
 --   At l t v at              `at` is that node
 --   Below cs ks at           it covers an hour, its range is one of readings, and all below it is lent
---   pairOf w                 a node of w hours, two or more, is a pair
+--   isPairOf w               a node of w hours, two or more, is a pair
 --   leftReached at r         its left half, which has the range r; rightReached at r, its right half
 --   touchesOf x at           it has a reading and shares an hour with the column x
 --   insideOf x at            it lies wholly inside the column
@@ -41,8 +41,8 @@ pub record Below (cs : List ℤ) (ks : List ℕ) (at : Reached) : Type 0 where
   pub codes : at .from .0 + at .hours ≤ 2 * length ks
 
 -- Pairs have two hours, and every node above them four or more. [hours 9]
-abbrev pub pairOf : ℕ → Bool
-pairOf w = ltb w 4
+abbrev pub isPairOf : ℕ → Bool
+isPairOf w = ltb w 4
 
 -- The left half has twice the number and the first half of the hours; the right half one more, and the second half.
 abbrev pub leftReached : Reached → Range → Reached

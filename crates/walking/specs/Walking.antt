@@ -4,7 +4,7 @@
 --   halvesAt l n t v         the halves of node v if it is sound; SteppedDown, what a step from there answers
 --   Steps                    what a step needs of a node, whatever its hours; SteppedFrom, its contract
 --   walkCheck r              what a walk says, as a check
---   Asked l d x stop         the walk is for depth d, whose nodes cover `stop` hours, and a column x that has an hour
+--   StopsAt l d x stop       the walk is for depth d, whose nodes cover `stop` hours, and a column x that has an hour
 --   Walks                    what a walk says of node v and the nodes below it
 --   InnerBelow cs ks i       the first and the last node of an inner range are lent, with all below them
 --   WalkedFrom               the contract of the walk below a node; TableWalked, of that from the root values
@@ -26,11 +26,10 @@ use Rattle.om3.specs.Ranges.{Readings}
 use Rattle.om3.specs.Table.{Table, lent}
 use Rattle.om3.specs.Down.{reached}
 use Rattle.om3.specs.Checks.{Check, passes, refuses}
-use Rattle.om3.specs.Sound.{soundNode, nodesBelow, examine}
+use Rattle.om3.specs.Sound.{soundNode, nodesBelow, examine, examineNodes}
 use Rattle.om3.specs.Stopped.{opened, openedNodes, visited}
 use Rattle.node.specs.declared.Halves.{Halves}
-use Rattle.turning.specs.Turning.{examineNodes}
-use Rattle.walking.specs.Nodes.{At, Below, pairOf}
+use Rattle.walking.specs.Nodes.{At, Below, isPairOf}
 use Rattle.walking.specs.Seen.{seenOf, tableSeen}
 use Rattle.walking.specs.declared.Reached.{Reached}
 use Rattle.walking.specs.declared.Inner.{Inner}
@@ -56,7 +55,7 @@ pub record Steps (cs : List ℤ) (ks : List ℕ) (i : NodeId) (t : Timestamp) (p
 -- It answers for every node of two hours or more that has these parts.
 abbrev pub SteppedFrom : ℕ → List ℤ → List ℕ → NodeId → Timestamp → Bool → Range → Halves → Type 0
 SteppedFrom n cs ks i t pair range r =
-    (w : ℕ) → 2 ≤ w → pair ≡ pairOf w
+    (w : ℕ) → 2 ≤ w → pair ≡ isPairOf w
     → SteppedDown n cs ks (record { id = i; from = t; hours = w; range = range }) r
 
 -- A walk is through exactly if the nodes that it opened are sound. [refusals 4]
@@ -65,7 +64,7 @@ walkCheck (Walked.Unsound i) = refuses (refusal.Unsound i)
 walkCheck (Walked.Through s) = passes
 
 -- Nodes of level d cover 2^(l−d) hours; only nodes that cover more are of a level below d. [columns 7]
-pub record Asked (l d : ℕ) (x : Column) (stop : ℕ) : Type 0 where
+pub record StopsAt (l d : ℕ) (x : Column) (stop : ℕ) : Type 0 where
   pub deep : d ≤ l
   pub stops : stop ≡ 2 ^ (l - d)
   pub some : x .from .0 < x .upto .0
@@ -85,14 +84,14 @@ pub record WalkedFrom (n : ℕ) (cs : List ℤ) (ks : List ℕ) (x : Column) (st
     : Type 0 where
   pub few : (s : Seen) → r ≡ Walked.Through s → s .opened + 1 ≤ c + at .hours
   pub below : (s : Seen) → r ≡ Walked.Through s → InnerBelow cs ks (s .inner)
-  pub walks : (l d : ℕ) (v : Node) → Asked l d x stop → At l (lent cs ks) v at → visited l (lent cs ks) x d v ≡ true
+  pub walks : (l d : ℕ) (v : Node) → StopsAt l d x stop → At l (lent cs ks) v at → visited l (lent cs ks) x d v ≡ true
       → Walks l n (lent cs ks) x d c v r
 
 -- From the root values: node 0 is examined first, and node 1 is visited. [columns 8, 16]
 pub record TableWalked (n : ℕ) (cs : List ℤ) (ks : List ℕ) (x : Column) (stop : ℕ) (r : Walked) : Type 0 where
   pub few : (s : Seen) → r ≡ Walked.Through s → s .opened < P n
   pub below : (s : Seen) → r ≡ Walked.Through s → InnerBelow cs ks (s .inner)
-  pub examined : (d : ℕ) → Asked (levels n) d x stop
+  pub examined : (d : ℕ) → StopsAt (levels n) d x stop
       → walkCheck r ≡ examine (levels n) n (lent cs ks) (openedNodes (levels n) (lent cs ks) x d)
-  pub saw : (d : ℕ) → Asked (levels n) d x stop → (s : Seen) → r ≡ Walked.Through s
+  pub saw : (d : ℕ) → StopsAt (levels n) d x stop → (s : Seen) → r ≡ Walked.Through s
       → s ≡ tableSeen (levels n) (lent cs ks) x d

@@ -7,11 +7,11 @@ use words::Range;
 use words::Timestamp;
 ghost use mathlib.Core.Path.{_≡_};
 ghost use Prim.Native.Nat.{_+_, _*_, _^_, _<_};
-ghost use Rattle.walking.specs.Nodes.{pairOf, leftReached, rightReached, touchesOf, insideOf, openedOf};
+ghost use Rattle.walking.specs.Nodes.{isPairOf, leftReached, rightReached, touchesOf, insideOf, openedOf};
 
 // Whether a node of two hours or more is a pair.
 pub fn is_pair(hours: usize) -> bool
-    ensures { λ r. ⌜ r ≡ pairOf hours ⌝ }
+    ensures { λ r. ⌜ r ≡ isPairOf hours ⌝ }
 {
     hours < 4
 }

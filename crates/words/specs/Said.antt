@@ -89,9 +89,6 @@ valuesOf Answer.NoReading = []
 valuesOf (Answer.Found s) =
     pos (s .first .hour .0) ∷ s .first .grams ∷ pos (s .last .hour .0) ∷ s .last .grams ∷ s .low ∷ s .high ∷ []
 
-abbrev pub saidOfAnswer : Answer → Said
-saidOfAnswer answer = taken (valuesOf answer)
-
 abbrev pub saidOfFinished : Finished → Said
 saidOfFinished (Finished.Answered answer count) = taken (valuesOf answer ++ pos count ∷ [])
 saidOfFinished (Finished.Refused r) = refused r

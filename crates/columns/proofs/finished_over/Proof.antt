@@ -31,8 +31,8 @@ enum-known-i c = search needs
 enum-known-seen : tie.Need-enum-known-seen
 enum-known-seen c = search needs
 
-visited-requires : tie.Need-visited-requires
-visited-requires c κs =
+count-of-requires : tie.Need-count-of-requires
+count-of-requires c κs =
     let start = hour-at (c .before) .before .before .before in
     omega (arith, through (c .before) .few _ refl, P-most (start .args .n))
 
@@ -55,7 +55,7 @@ found-requires c κs =
       (
         laws.first-hours _ _ _ _ _ _ N,
         laws.last-hours _ _ _ _ _ _ N,
-        omega (arith, t .few _ refl, P-most (start .args .n), c .before .before .before .visited .ensures),
+        omega (arith, t .few _ refl, P-most (start .args .n), c .before .before .before .count-of .ensures),
       ),
     )
 
@@ -68,14 +68,14 @@ returns-2 c =
 returns-3 : tie.Need-returns-3
 returns-3 c =
     let c4 = c .before .before .before .before in
-    rw (c .before .before .visited .ensures)
+    rw (c .before .before .count-of .ensures)
     (laws.finished-nothing _ _ _ _ (hour-at c4 .if1 .left) _ (through c4) (c .enum-told .given .1))
 
 returns-4 : tie.Need-returns-4
 returns-4 c =
     let c6 = c .before .before .before .before .before .before in
     laws.finished-nodes _ _ _ _ (hour-at c6 .if1 .left) _ (through c6) _ _ _ (c .before .before .nodes .given .1) _
-    (rw (c .before .before .before .before .visited .ensures) at (c .found .ensures))
+    (rw (c .before .before .before .before .count-of .ensures) at (c .found .ensures))
 
 pub finished-over-spec : {M : Type 1} → statement M
 finished-over-spec =
@@ -85,7 +85,7 @@ finished-over-spec =
     walk-table-requires
     enum-known-i
     enum-known-seen
-    visited-requires
+    count-of-requires
     enum-told
     enum-known-nodes
     found-requires

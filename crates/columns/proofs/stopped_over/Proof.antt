@@ -34,8 +34,8 @@ enum-known-seen c = search needs
 inner-range-requires : tie.Need-inner-range-requires
 inner-range-requires c κs = search needs
 
-visited-requires : tie.Need-visited-requires
-visited-requires c κs =
+count-of-requires : tie.Need-count-of-requires
+count-of-requires c κs =
     let c2 = c .before .before in
     let start = hour-at c2 .before .before .before in
     omega (arith, through c2 .few _ refl, P-most (start .args .n))
@@ -49,7 +49,7 @@ returns-2 c =
 returns-3 : tie.Need-returns-3
 returns-3 c =
     let c3 = c .before .before .before in
-    rw (c .before .inner-range .ensures, c .visited .ensures)
+    rw (c .before .inner-range .ensures, c .count-of .ensures)
     (laws.stopped-seen _ _ _ _ _ (hour-at c3 .if1 .left) _ (through c3))
 
 pub stopped-over-spec : {M : Type 1} → statement M
@@ -61,6 +61,6 @@ stopped-over-spec =
     enum-known-i
     enum-known-seen
     inner-range-requires
-    visited-requires
+    count-of-requires
     returns-2
     returns-3)

@@ -24,18 +24,13 @@ places-requires c κs = good-some _ (good c) .1
 
 returns-2 : tie.Need-returns-2
 returns-2 c =
-    let c2 = c .before .before in
-    let c3 = c2 .before in
-    laws.too-short _ _ _ (good c2)
-    (rw (c .before .places .ensures) at (c .if2 .taken))
+    laws.too-short _ _ _ (good (c .before .before)) (rw (c .before .places .ensures) at (c .if2 .taken))
 
 returns-3 : tie.Need-returns-3
 returns-3 c =
     let c2 = c .before .before in
-    let c3 = c2 .before in
-    let c4 = c3 .before in
     let room = rw (c2 .places .ensures) at (c .before .if2 .left) in
-    laws.too-deep _ _ _ (good c3) room (c .if3 .taken)
+    laws.too-deep _ _ _ (good (c2 .before)) room (c .if3 .taken)
 
 power-requires : tie.Need-power-requires
 power-requires c κs = search needs
@@ -47,10 +42,8 @@ returns-4 : tie.Need-returns-4
 returns-4 c =
     let c3 = c .before .before .before in
     let c4 = c3 .before in
-    let c5 = c4 .before in
-    let c6 = c5 .before in
     let p = c4 .places .ensures in
-    laws.too-wide _ _ _ (good c5) (rw p at (c3 .if2 .left))
+    laws.too-wide _ _ _ (good (c4 .before)) (rw p at (c3 .if2 .left))
     (rw (p, c .before .power .ensures) at (c .if4 .taken))
 
 mul-t9 : tie.Need-mul-t9
@@ -63,11 +56,9 @@ returns-5 : tie.Need-returns-5
 returns-5 c =
     let c3 = c .before .before .before in
     let c4 = c3 .before in
-    let c5 = c4 .before in
-    let c6 = c5 .before in
     let p = c4 .places .ensures in
     rw (c .before .power .ensures)
-    (laws.there _ _ _ (good c5) (rw p at (c3 .if2 .left))
+    (laws.there _ _ _ (good (c4 .before)) (rw p at (c3 .if2 .left))
     (rw (p, c .before .power .ensures) at (c .if4 .left)))
 
 pub stretch-spec : {M : Type 1} → statement M

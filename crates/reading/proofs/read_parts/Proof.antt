@@ -12,19 +12,25 @@ use Rattle.reading.proofs.ReadingParts as laws
 use Rattle.reading.proofs.read_parts.Statement.{statement}
 use Rattle.reading.proofs.read_parts.Tie as tie
 
+-- The call's start, seen from where check 3 is made and from where it has passed.
+abbrev startOf : tie.After-table-short → tie.Start
+startOf c = c .before .before .before .before
+
+abbrev start : tie.Else1 → tie.Start
+start c = startOf (c .before)
+
 -- What check 3 found of the buffers.
 table-found : (c : tie.After-table-short) →
-    (let a = c .before .before .before .before .args in
+    (let a = startOf c .args in
     c .table-short .result ≡ tableShort (a .n) (lent (a .coefficients .now) (a .codes .now)))
 table-found c =
-    let start = c .before .before .before .before in
-    let a = start .args in
-    laws.lent-short (a .n) (a .packed .now) (a .codes-in .now) (a .coefficients .now) (a .codes .now) (start .pre)
+    let a = startOf c .args in
+    laws.lent-short (a .n) (a .packed .now) (a .codes-in .now) (a .coefficients .now) (a .codes .now) (startOf c .pre)
     (c .table-short .result) (c .table-short .ensures)
 
 -- Check 3 has passed.
 room : (c : tie.Else1) →
-    (let a = c .before .before .before .before .before .args in
+    (let a = start c .args in
     tableShort (a .n) (lent (a .coefficients .now) (a .codes .now)) ≡ false)
 room c = sym (table-found (c .before)) ∙ c .if1 .left
 
@@ -33,18 +39,16 @@ table-short-requires c κs = search needs
 
 -- So both buffers have room for what is unpacked.
 coefficients-fit : (c : tie.Else1) →
-    (let a = c .before .before .before .before .before .args in
+    (let a = start c .args in
     length (a .packed .now) / 3 ≤ length (a .coefficients .now))
 coefficients-fit c =
-    let start = c .before .before .before .before .before in
-    let a = start .args in
-    laws.coefficients-fit (a .n) (a .packed .now) (a .codes-in .now) (a .coefficients .now) (a .codes .now) (start .pre)
-    (room c)
+    let a = start c .args in
+    laws.coefficients-fit (a .n) (a .packed .now) (a .codes-in .now) (a .coefficients .now) (a .codes .now)
+    (start c .pre) (room c)
 
 returns : tie.Need-returns
 returns c =
-    let start = c .before .before .before .before .before in
-    laws.short-table _ _ _ _ _ (start .pre) (sym (table-found (c .before)) ∙ c .if1 .taken)
+    laws.short-table _ _ _ _ _ (startOf (c .before) .pre) (sym (table-found (c .before)) ∙ c .if1 .taken)
 
 examine-requires : tie.Need-examine-requires
 examine-requires c κs = search needs
@@ -55,8 +59,8 @@ enum-known-i c = search needs
 returns-2 : tie.Need-returns-2
 returns-2 c =
     let examined = c .before .before .before in
-    let start = examined .before .before .before .before .before .before in
-    laws.unsound-refused _ _ _ _ _ (start .pre) (room (examined .before)) _ (examined .examine .ensures) _
+    let passed = examined .before in
+    laws.unsound-refused _ _ _ _ _ (start passed .pre) (room passed) _ (examined .examine .ensures) _
     (c .before .i .given .1)
 
 enum-told : tie.Need-enum-told
@@ -78,10 +82,9 @@ unpack-requires c κs =
 copy-requires : tie.Need-copy-requires
 copy-requires c κs =
     let passed = c .before .before .before .before .before .before .before in
-    let start = passed .before .before .before .before .before in
-    let a = start .args in
-    laws.codes-fit (a .n) (a .packed .now) (a .codes-in .now) (a .coefficients .now) (a .codes .now) (start .pre)
-    (room passed)
+    let a = start passed .args in
+    laws.codes-fit (a .n) (a .packed .now) (a .codes-in .now) (a .coefficients .now) (a .codes .now)
+    (start passed .pre) (room passed)
 
 same-length : tie.Need-same-length
 same-length c = search needs
@@ -94,8 +97,8 @@ returns-3 c =
     let unpacked = c .before .before .before .before .before in
     let told = unpacked .before .before in
     let examined = told .before .before in
-    let start = examined .before .before .before .before .before .before in
-    laws.table-read _ _ _ _ _ (start .pre) (room (examined .before)) _ (examined .examine .ensures)
+    let passed = examined .before in
+    laws.table-read _ _ _ _ _ (start passed .pre) (room passed) _ (examined .examine .ensures)
     (told .enum-told .given .1) _ (unpacked .unpack .ensures) _ (c .before .before .copy .ensures .1)
 
 pub read-parts-spec : {M : Type 1} → statement M

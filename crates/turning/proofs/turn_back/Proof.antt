@@ -21,19 +21,26 @@ use Rattle.turning.proofs.TurningBack as laws
 use Rattle.turning.proofs.turn_back.Statement.{statement}
 use Rattle.turning.proofs.turn_back.Tie as tie
 
+-- The call's start, seen from where check 3 is made and from where it has passed.
+abbrev startOf : tie.After-table-short → tie.Start
+startOf c = c .before .before .before .before .before
+
+abbrev start : tie.Else3 → tie.Start
+start c = startOf (c .before .before)
+
 -- Check 1 has passed.
 good : (c : tie.Else1) → badHours (c .before .before .before .args .n) ≡ false
 good c = sym (c .before .bad-hours .ensures) ∙ c .if1 .left
 
 -- What check 3 found of the table.
 table-found : (c : tie.After-table-short) →
-    (let a = c .before .before .before .before .before .args in
+    (let a = startOf c .args in
     c .table-short .result ≡ tableShort (a .n) (lent (a .coefficients .now) (a .codes .now)))
 table-found c = rw (c .before .places .ensures) at (c .table-short .ensures)
 
 -- Checks 1 and 3 have passed.
 fits : (c : tie.Else3) →
-    (let a = c .before .before .before .before .before .before .before .args in
+    (let a = start c .args in
     Enough (a .n) (a .coefficients .now) (a .codes .now) (length (a .hours .now)) (a .n))
 fits c =
     let found = c .before .before in
@@ -42,11 +49,11 @@ fits c =
 -- What node 1's range is told to be, for the root values as they stand in the coefficients.
 root-told : (c : tie.After-root-range) {x : Root} → c .root-range .result ≡ x →
     (let examined = c .before .before .before .before .before in
-    let cs = examined .before .before .before .before .before .before .before .before .args .coefficients .now in
+    let cs = start (examined .before) .args .coefficients .now in
     rootOf (getD cs 0 (pos 0)) (getD cs 1 (pos 0)) ≡ x)
 root-told c g =
     let examined = c .before .before .before .before .before in
-    let cs = examined .before .before .before .before .before .before .before .before .args .coefficients .now in
+    let cs = start (examined .before) .args .coefficients .now in
     root-read cs (c .before .before .root-range-arg .given) (c .before .root-range-arg2 .given)
     (c .root-range .ensures) g
 
@@ -90,14 +97,14 @@ enum-told c = search needs
 shared-slice-copy-out-root-range : tie.Need-shared-slice-copy-out-root-range
 shared-slice-copy-out-root-range c =
     let passed = c .before .before .before in
-    let a = passed .before .before .before .before .before .before .before .args in
+    let a = start passed .args in
     let z : 0 < length (a .coefficients .now) = omega (arith, 2≤P (a .n), fits passed .table .coefficients) in
     z
 
 shared-slice-copy-out-root-range-2 : tie.Need-shared-slice-copy-out-root-range-2
 shared-slice-copy-out-root-range-2 c =
     let passed = c .before .before .before .before in
-    let a = passed .before .before .before .before .before .before .before .args in
+    let a = start passed .args in
     let z : 1 < length (a .coefficients .now) = omega (arith, 2≤P (a .n), fits passed .table .coefficients) in
     z
 
@@ -119,7 +126,7 @@ write-below-requires : tie.Need-write-below-requires
 write-below-requires c κs =
     let c4 = c .before .before .before .before in
     let c9 = c4 .before .before .before .before .before in
-    let a = c9 .before .before .before .before .before .before .before .before .args in
+    let a = start (c9 .before) .args in
     let r = root-told c4 (c .before .before .range .given .1) in
     let e = c9 .before .before .before .before .places .ensures in
     let f = fits (c9 .before) in
@@ -150,7 +157,7 @@ returns-6 c =
     let c2 = c .before .before in
     let c5 = c2 .before .before .before in
     let c7 = c5 .before .before in
-    let out = c7 .before .before .before .before .before .before .before .before .args .hours .now in
+    let out = start (c7 .before) .args .hours .now in
     let r = root-told c2 (c .enum-told2 .given .1) in
     absurd
     (laws.root-not-unsound _ _ _ out (fits (c7 .before)) _ (c7 .examine .ensures) (c5 .enum-told .given .1) r)

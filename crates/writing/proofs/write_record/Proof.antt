@@ -17,25 +17,32 @@ use Rattle.writing.proofs.Written as laws
 use Rattle.writing.proofs.write_record.Statement.{statement}
 use Rattle.writing.proofs.write_record.Tie as tie
 
+-- The call's start, seen from where check 1 and where check 3 have passed.
+abbrev startOf : tie.Else1 → tie.Start
+startOf c = c .before .before .before .before
+
+abbrev start : tie.Else3 → tie.Start
+start c = startOf (c .before .before .before .before .before)
+
 -- Check 1 has passed.
-good : (c : tie.Else1) → badHours (c .before .before .before .before .args .n) ≡ false
+good : (c : tie.Else1) → badHours (startOf c .args .n) ≡ false
 good c = sym (c .before .bad-hours .ensures) ∙ c .if1 .left
 
 -- What check 3 found of the table.
 table-found : (c : tie.After-table-short) →
-    (let a = c .before .before .before .before .before .before .args in
+    (let a = startOf (c .before .before) .args in
     c .table-short .result ≡ tableShort (a .n) (lent (a .coefficients .now) (a .codes .now)))
 table-found c = rw (c .before .places .ensures) at (c .table-short .ensures)
 
 -- The size that is asked for is the record's.
 size-right : (c : tie.After-record-size) →
-    (let a = c .before .before .before .before .before .before .before .before .args in
+    (let a = startOf (c .before .before .before .before) .args in
     c .record-size .result ≡ recordSize (a .n))
 size-right c = rw (c .before .before .before .places .ensures) at (c .record-size .ensures)
 
 -- Checks 1 and 3 have passed.
 fits : (c : tie.Else3) →
-    (let a = c .before .before .before .before .before .before .before .before .before .args in
+    (let a = start c .args in
     Enough (a .n) (a .coefficients .now) (a .codes .now) (length (a .bytes .now)) (recordSize (a .n)))
 fits c =
     let long = c .before .before in
@@ -46,7 +53,7 @@ fits c =
 -- The buffers have the coefficients and the codes that are put.
 there : (c : tie.Else3) →
     (let places = c .before .before .before .before in
-    let a = places .before .before .before .before .before .args in
+    let a = startOf (places .before) .args in
     (places .places .result ≤ length (a .coefficients .now)) × (places .places .result / 2 ≤ length (a .codes .now)))
 there c =
     let table = fits c .table in
@@ -72,7 +79,7 @@ returns-2 c =
 record-size-requires : tie.Need-record-size-requires
 record-size-requires c κs =
     let c2 = c .before .before in
-    rw (c2 .places .ensures) (P-most (c2 .before .before .before .before .before .args .n))
+    rw (c2 .places .ensures) (P-most (startOf (c2 .before) .args .n))
 
 returns-3 : tie.Need-returns-3
 returns-3 c =
@@ -110,7 +117,7 @@ put-record-requires c κs =
     let c3 = c .before .before .before in
     let c5 = c3 .before .before in
     let c10 = c5 .before .before .before .before .before in
-    let a = c10 .before .before .before .before .before .args in
+    let a = startOf (c10 .before) .args in
     laws.ready _ _ _ (a .bytes .now) (fits (c5 .before)) _ (c5 .examine .ensures) (c3 .enum-told .given .1) _
     (c10 .places .ensures)
 

@@ -1,0 +1,107 @@
+-- What is proved of the definitions by themselves: what P is, which nodes are examined and what the examination of a
+-- table says, how three bytes hold a number and a record a table. Assumes nothing.
+use mathlib.Core.Path.{_≡_}
+use mathlib.Core.Bool.{Bool, true, false}
+use mathlib.Core.List.{List}
+use mathlib.Core.Logic.{_↔_}
+use Prim.Native.Nat.{ℕ, _/_, _^_, _≤_, _<_}
+use lib.IntN.{ℤ}
+use lib.ListN.{length, take}
+use Rattle.words.specs.Constants.{largestHours}
+use Rattle.om3.specs.Lists.{every}
+use Rattle.om3.specs.Series.{Series, levels, P}
+use Rattle.om3.specs.Nodes.{Node, InTree}
+use Rattle.om3.specs.Table.{Table, tableOf, HasTable}
+use Rattle.om3.specs.Down.{turnedBack}
+use Rattle.om3.specs.Checks.{passes}
+use Rattle.om3.specs.Sound.{tableNodes, soundTable}
+use Rattle.om3.specs.Refusals.{tableShort, examineTable}
+use Rattle.om3.specs.Record.{Bytes, InThree, threeBytes, signedFrom, recordSize, recordOf}
+use Rattle.om3.specs.Record.{hoursIn, tableIn, openingChecks, Openable}
+use Rattle.om3.proofs as om3
+
+-- P is at least n, for up to 16,384 hours, at least 2, and the smallest such power of two.
+P-at-least-n : (n : ℕ) → n ≤ largestHours → n ≤ P n
+P-at-least-n = om3.Levels.n≤P
+
+P-at-least-2 : (n : ℕ) → 2 ≤ P n
+P-at-least-2 = om3.Levels.2≤P
+
+P-smallest : (n j : ℕ) → n ≤ 2 ^ j → 2 ≤ 2 ^ j → P n ≤ 2 ^ j
+P-smallest = om3.Levels.P-smallest
+
+-- l is from 1 to 14.
+levels-from-1 : (n : ℕ) → 1 ≤ levels n
+levels-from-1 = om3.Levels.levels-some
+
+levels-to-14 : (n : ℕ) → levels n ≤ 14
+levels-to-14 = om3.Levels.levels-most
+
+-- For 1 to 16,384 hours and with room, a table is sound exactly if some series of n hours has it.
+sound-exactly : (n : ℕ) → 1 ≤ n → n ≤ largestHours → (t : Table) → tableShort n t ≡ false
+    → (soundTable (levels n) n t ≡ true) ↔ ((s : List ℤ) × Series n s × HasTable n s t)
+sound-exactly = om3.Demand2.sound-exactly
+
+-- The table of a series, turned back, is the series.
+made-turned : (n : ℕ) (s : List ℤ) → Series n s → turnedBack (levels n) (tableOf (levels n) n s) n ≡ s
+made-turned = om3.Demand2.made-turned
+
+-- The list of examination has the nodes of levels 0 to l − 1, and no others: a test holds of each of these nodes
+-- exactly if it holds of the whole list.
+table-nodes : (l : ℕ) (p : Node → Bool)
+    → ((v : Node) → InTree l v → v .level < l → p v ≡ true) ↔ (every p (tableNodes l) ≡ true)
+table-nodes l p = (om3.NodeLists.table-from-each l p, om3.NodeLists.each-in-table l p)
+
+-- The examination of a whole table passes exactly if the table is sound.
+examine-sound : (n : ℕ) (t : Table) → (examineTable n t ≡ passes) ↔ (soundTable (levels n) n t ≡ true)
+examine-sound n = om3.Examined.examine-sound (levels n) n
+
+-- A number has three bytes.
+three-size : (z : ℤ) → length (threeBytes z) ≡ 3
+three-size = om3.ThreeBytes.three-size
+
+-- A number from −8,388,608 to 8,388,607 is read back from them.
+three-back : (z : ℤ) → InThree z → signedFrom (threeBytes z) ≡ z
+three-back = om3.ThreeBytes.three-back
+
+-- What is read from three bytes is such a number.
+three-range : (bs : List ℕ) → Bytes bs → length bs ≡ 3 → InThree (signedFrom bs)
+three-range = om3.ThreeBytes.three-range
+
+-- Three bytes that were read are written again as they were.
+three-forth : (bs : List ℕ) → Bytes bs → length bs ≡ 3 → threeBytes (signedFrom bs) ≡ bs
+three-forth = om3.ThreeBytes.three-forth
+
+-- One number is in one three bytes, and one three bytes have one number.
+three-one : (bs cs : List ℕ) → Bytes bs → length bs ≡ 3 → Bytes cs → length cs ≡ 3 → signedFrom bs ≡ signedFrom cs
+    → bs ≡ cs
+three-one = om3.ThreeBytes.three-one
+
+three-apart : (y z : ℤ) → InThree y → InThree z → threeBytes y ≡ threeBytes z → y ≡ z
+three-apart = om3.ThreeBytes.three-apart
+
+-- The record of a table with its places has 7 + 3P + P/2 bytes.
+record-size : (n : ℕ) (t : Table) → tableShort n t ≡ false → length (recordOf n t) ≡ recordSize n
+record-size = om3.Records.record-size
+
+-- The table is read back from it, if it is sound.
+record-back : (n : ℕ) (t : Table) → n ≤ largestHours → tableShort n t ≡ false → soundTable (levels n) n t ≡ true
+    → tableIn (recordOf n t) ≡ record { coefficients = take (P n) (t .coefficients); codes = take (P n / 2) (t .codes) }
+record-back = om3.RecordsTaken.record-back
+
+-- A record is bytes, if the codes are.
+record-range : (n : ℕ) (t : Table) → Bytes (t .codes) → Bytes (recordOf n t)
+record-range = om3.Records.record-range
+
+-- A record that opening takes is that of the table that it states.
+record-forth : (r : List ℕ) → Bytes r → openingChecks r ≡ passes → recordOf (hoursIn r) (tableIn r) ≡ r
+record-forth = om3.RecordsForth.record-forth
+
+-- One table of n hours has one record.
+one-record : (r q : List ℕ) → Bytes r → Bytes q → openingChecks r ≡ passes → openingChecks q ≡ passes
+    → hoursIn r ≡ hoursIn q → tableIn r ≡ tableIn q → r ≡ q
+one-record = om3.RecordsForth.record-one
+
+-- Opening takes the bytes whose fields fit one another and their length, and no others.
+opening-exactly : (r : List ℕ) → (openingChecks r ≡ passes) ↔ Openable r
+opening-exactly = om3.RecordsOpened.opening-exactly

@@ -1,0 +1,2 @@
+-- What is proved of what the boundary tells.
+pub mod Says
