@@ -25,9 +25,10 @@ pub fn stretch(n: usize, j: usize, lent: usize) -> Stretch
     if p < 4 * width {
         return none;
     }
+    let doubled = 2 * width;
     Stretch {
-        start: 2 * width,
-        length: 2 * width,
+        start: doubled,
+        length: doubled,
     }
 }
 

@@ -101,6 +101,7 @@ soundTable l n t = soundRootValues (coefficientAt t 0) (coefficientAt t 1) && ev
 abbrev pub examineNode : NodeId → Bool → Check
 examineNode i isSound = refuseIf (not isSound) (Unsound i)
 
+-- The root values, called node 0. [sound 1]
 abbrev pub examineRoot : Table → Check
 examineRoot t = examineNode (record { 0 = 0 }) (soundRootValues (coefficientAt t 0) (coefficientAt t 1))
 

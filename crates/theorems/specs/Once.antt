@@ -17,6 +17,7 @@ use contract.Lifetimes.{Lfts}
 use contract.Monad.{fact}
 use contract.Notation.{connectives}
 use denote.Ref.{RefT, now}
+use denote.Triple.Clauses.{Clauses}
 use borrow.Fn.World.{World, ArgsD}
 use Rattle.words.specs.declared.Asking.{Asking}
 use Rattle.om3.specs.Record.{askedView}
@@ -56,8 +57,18 @@ use Rattle.sagivelume.proofs.sagivelume_finished.Reads as finished-told
 use Rattle.sagivelume.proofs.sagivelume_join.Reads as join-told
 use Rattle.sagivelume.proofs.sagivelume_day_change.Reads as day-change-told
 
+-- Of the parameters of a call.
+abbrev second : {A B C : Type 0} → A × (B × C) → B
+second e = e .1 .0
+
+abbrev third : {A B C D : Type 0} → A × (B × (C × D)) → C
+third e = e .1 .1 .0
+
+abbrev fourth : {A B C D E : Type 0} → A × (B × (C × (D × E))) → D
+fourth e = e .1 .1 .1 .0
+
 -- A call: κs are the lifetimes of what is lent to it, a its arguments, r its answer, and e its parameters as they are
--- when it ends: `e .0` is the first, `e .1 .0` the second, `e .1 .1 .0` the third and so on.
+-- when it ends.
 module _ {K : Type 0} {A R E : K → Type 0} where
   pub record OneResult (same : (κs : K) (r r′ : R κs) (e e′ : E κs) → Type 0) (asked : (κs : K) → A κs → Type 0)
       (ensured : (κs : K) → A κs → R κs → E κs → Type 0) : Type 0 where
@@ -77,25 +88,30 @@ module _ {K : Type 0} {A R E : K → Type 0} where
   TwoBuffers left right =
       OneResult (λ κs r r′ e e′. (r ≡ r′) × (left κs e ≡ left κs e′) × (right κs e ≡ right κs e′))
 
--- `open` and `ask` of the view. In every world w that a contract can be about they ask nothing and promise an equation.
+-- The clauses of `open` and of `ask` of the view, in a world w that a contract can be about.
+abbrev opens : (w : World) → Clauses (w .𝓤) opening.ended
+opens w = opening.clauses (w .𝓤) (w .H) (w .𝓖 .A) (w .𝓜 .mem) (w .𝓡 .run)
+
+abbrev asks : (w : World) → Clauses (w .𝓤) asking.ended
+asks w = asking.clauses (w .𝓤) (w .H) (w .𝓖 .A) (w .𝓜 .mem) (w .𝓡 .run)
+
+-- In every world they ask nothing and promise an equation.
 pub record WalkedByHand : Type 2 where
   pub open-asks : (w : World) (κs : Lfts 1) (a : ArgsD opening.signature κs)
-      → opening.clauses (w .𝓤) (w .H) (w .𝓖 .A) (w .𝓜 .mem) (w .𝓡 .run) κs a .requires tt ≡ connectives (w .𝓤) .⊤ₛ
+      → opens w κs a .requires tt ≡ connectives (w .𝓤) .⊤ₛ
   pub open-promises : (w : World) (κs : Lfts 1) (a : ArgsD opening.signature κs) (v : View) (e : _)
-      → opening.clauses (w .𝓤) (w .H) (w .𝓖 .A) (w .𝓜 .mem) (w .𝓡 .run) κs a .ensures tt v e
-      ≡ fact (w .𝓤) (v ≡ viewOf (a .0))
+      → opens w κs a .ensures tt v e ≡ fact (w .𝓤) (v ≡ viewOf (a .0))
   pub ask-asks : (w : World) (κs : Lfts 1) (a : ArgsD asking.signature κs)
-      → asking.clauses (w .𝓤) (w .H) (w .𝓖 .A) (w .𝓜 .mem) (w .𝓡 .run) κs a .requires tt ≡ connectives (w .𝓤) .⊤ₛ
+      → asks w κs a .requires tt ≡ connectives (w .𝓤) .⊤ₛ
   pub ask-promises : (w : World) (κs : Lfts 1) (a : ArgsD asking.signature κs) (u : Asking) (e : _)
-      → asking.clauses (w .𝓤) (w .H) (w .𝓖 .A) (w .𝓜 .mem) (w .𝓡 .run) κs a .ensures tt u e
-      ≡ fact (w .𝓤) (u ≡ askedView (now (a .0 .bytes)) (a .0 .places) (a .1 .0))
+      → asks w κs a .ensures tt u e ≡ fact (w .𝓤) (u ≡ askedView (now (a .0 .bytes)) (a .0 .places) (a .1 .0))
 
 pub record EachTold : Type 0 where
-  pub make : TwoBuffers (λ κs e. now (e .1 .1 .0)) (λ κs e. now (e .1 .1 .1 .0)) make-told.Asked make-told.Learnt
-  pub turn-back : OneBuffer (λ κs e. now (e .1 .1 .1 .0)) turn-back-told.Asked turn-back-told.Learnt
+  pub make : TwoBuffers (λ κs e. now (third e)) (λ κs e. now (fourth e)) make-told.Asked make-told.Learnt
+  pub turn-back : OneBuffer (λ κs e. now (fourth e)) turn-back-told.Asked turn-back-told.Learnt
   pub level : OneAnswer level-told.Asked level-told.Learnt
-  pub write-record : OneBuffer (λ κs e. now (e .1 .1 .1 .0)) write-record-told.Asked write-record-told.Learnt
-  pub read-record : TwoBuffers (λ κs e. now (e .1 .0)) (λ κs e. now (e .1 .1 .0)) read-record-told.Asked
+  pub write-record : OneBuffer (λ κs e. now (fourth e)) write-record-told.Asked write-record-told.Learnt
+  pub read-record : TwoBuffers (λ κs e. now (second e)) (λ κs e. now (third e)) read-record-told.Asked
       read-record-told.Learnt
   pub open-record : OneAnswer open-record-told.Asked open-record-told.Learnt
   pub ask : OneAnswer ask-told.Asked ask-told.Learnt
@@ -107,14 +123,14 @@ pub record EachTold : Type 0 where
 
 pub record EachCall : Type 2 where
   -- Tables: making and turning back, with the lent buffers; one level's details, itself and as a stretch.
-  pub make : TwoBuffers (λ κs e. now (e .1 .1 .0)) (λ κs e. now (e .1 .1 .1 .0)) make.Asked make.Learnt
-  pub turn-back : OneBuffer (λ κs e. now (e .1 .1 .1 .0)) turn-back.Asked turn-back.Learnt
+  pub make : TwoBuffers (λ κs e. now (third e)) (λ κs e. now (fourth e)) make.Asked make.Learnt
+  pub turn-back : OneBuffer (λ κs e. now (fourth e)) turn-back.Asked turn-back.Learnt
   -- Of the part that `level` returns, what stands in it; which places these are, `stretch` says.
   pub level : OneResult (λ κs r r′ e e′. now r ≡ now r′) level.Asked level.Learnt
   pub stretch : OneAnswer stretch.Asked stretch.Learnt
   -- Records: writing and reading, with the lent buffers; opening; asking bytes of P coefficients, and asking a record.
-  pub write-record : OneBuffer (λ κs e. now (e .1 .1 .1 .0)) write-record.Asked write-record.Learnt
-  pub read-record : TwoBuffers (λ κs e. now (e .1 .0)) (λ κs e. now (e .1 .1 .0)) read-record.Asked read-record.Learnt
+  pub write-record : OneBuffer (λ κs e. now (fourth e)) write-record.Asked write-record.Learnt
+  pub read-record : TwoBuffers (λ κs e. now (second e)) (λ κs e. now (third e)) read-record.Asked read-record.Learnt
   pub open-record : OneAnswer open-record.Asked open-record.Learnt
   pub ask : OneAnswer ask.Asked ask.Learnt
   pub ask-record : OneAnswer ask-record.Asked ask-record.Learnt
@@ -132,8 +148,8 @@ pub record EachCall : Type 2 where
   pub day-change : OneAnswer day-change.Asked day-change.Learnt
   -- The printer: reading a text piece by piece, with the lent buffers, and printing, with what it leaves there.
   pub begin : OneAnswer begin.Asked begin.Learnt
-  pub read : TwoBuffers (λ κs e. now (e .1 .1 .0)) (λ κs e. now (e .1 .1 .1 .0)) read.Asked read.Learnt
-  pub close : OneBuffer (λ κs e. now (e .1 .1 .0)) close.Asked close.Learnt
-  pub print : OneBuffer (λ κs e. now (e .1 .1 .0)) print.Asked print.Learnt
+  pub read : TwoBuffers (λ κs e. now (third e)) (λ κs e. now (fourth e)) read.Asked read.Learnt
+  pub close : OneBuffer (λ κs e. now (third e)) close.Asked close.Learnt
+  pub print : OneBuffer (λ κs e. now (third e)) print.Asked print.Learnt
   -- The boundary's calls.
   pub told : EachTold

@@ -46,11 +46,8 @@ returns-4 c =
     laws.too-wide _ _ _ (good (c4 .before)) (rw p at (c3 .if2 .left))
     (rw (p, c .before .power .ensures) at (c .if4 .taken))
 
-mul-t9 : tie.Need-mul-t9
-mul-t9 c = search needs
-
-mul-t10 : tie.Need-mul-t10
-mul-t10 c = search needs
+mul-doubled : tie.Need-mul-doubled
+mul-doubled c = search needs
 
 returns-5 : tie.Need-returns-5
 returns-5 c =
@@ -73,6 +70,5 @@ stretch-spec =
     power-requires
     mul-if4
     returns-4
-    mul-t9
-    mul-t10
+    mul-doubled
     returns-5)
