@@ -3,9 +3,7 @@ use mathlib.Core.Path.{_≡_, refl, sym}
 use mathlib.Core.Bool.{true, false}
 use mathlib.Core.List.{List, [], _∷_}
 use Prim.Native.Nat.{ℕ, _*_, _≤_, _<_}
-use lib.Dec.{leb}
 use lib.IntN.{ℤ}
-use borrow.Author.Tests.{lt-leb}
 use Rattle.words.specs.Constants.{dayHours}
 use Rattle.words.specs.declared.Answer.{Answer}
 use Rattle.words.specs.declared.Column.{Column}
@@ -18,16 +16,14 @@ use Rattle.words.specs.declared.Stopped.{Stopped}
 use Rattle.words.specs.declared.Taking.{Taking}
 use Rattle.om3.specs.Series.{badHours, levels}
 use Rattle.om3.specs.Table.{Table, lent}
-use Rattle.om3.specs.Checks.{Check, passes, refuses, inOrder}
-use Rattle.om3.specs.Calls.{takingBy}
+use Rattle.om3.specs.Checks.{Check, passes, refuses, inOrder, answerBy}
 use Rattle.om3.specs.Refusals.{checkDepth}
-use Rattle.om3.specs.Columns.{column, edgesBy, edges}
-use Rattle.om3.specs.Stopped.{examineOpened, stopped}
-use Rattle.om3.specs.Finished.{answer, count, examineFinished, finishedBy, finished}
+use Rattle.om3.specs.Columns.{column, edges}
+use Rattle.om3.specs.Stopped.{openedNodes, examineColumn, stopped}
+use Rattle.om3.specs.Finished.{answer, finishedNodes, finished}
 use Rattle.om3.specs.Days.{day, changeOf, dayChange}
-use Rattle.om3.proofs.Answers.{day-hours}
 use Rattle.om3.proofs.Examined.{then-passes}
-use Rattle.columns.specs.Drawing.{lentChecks, windowChecks, StoppedAt, FinishedOver}
+use Rattle.columns.specs.Drawing.{lentChecks, windowChecks, StoppedAt, finishedAnswer, FinishedOver}
 use Rattle.columns.proofs.Checking as checking
 use Rattle.columns.proofs.Finishing.{not-answered}
 
@@ -36,7 +32,8 @@ module _ (n a b w k : ℕ) where
   unfolding edges
   edges-bad-hours bad = rw (checking.edges-hours n a b w k bad)
 
-  pub edges-window : badHours n ≡ false → (r : Edges) → r ≡ edgesBy (windowChecks n a b w k) (column a b w k)
+  pub edges-window : badHours n ≡ false → (r : Edges)
+      → r ≡ answerBy Edges.Refused (windowChecks n a b w k) (Edges.Hours (column a b w k))
       → r ≡ edges n a b w k
   unfolding edges
   edges-window good r e = rw (checking.edges-parted n a b w k good) e
@@ -49,65 +46,63 @@ module _ (n : ℕ) (cs : List ℤ) (ks : List ℕ) (a b w k : ℕ) where
   T = lent cs ks
 
   abbrev told : Edges
-  told = edgesBy (windowChecks n a b w k) (column a b w k)
+  told = answerBy Edges.Refused (windowChecks n a b w k) (Edges.Hours (column a b w k))
 
   -- A finished column.
   abbrev four : Check
-  four = examineFinished l T (column a b w k) n
+  four = examineColumn l T (column a b w k) n (finishedNodes l T (column a b w k))
 
-  pub finished-lent : (why : Refusal) → Taking.Refused why ≡ takingBy (lentChecks n T)
+  pub finished-lent : (why : Refusal) → Taking.Refused why ≡ answerBy Taking.Refused (lentChecks n T) Taking.Taken
       → Finished.Refused why ≡ finished n T a b w k
   unfolding finished
-  finished-lent why e = rw (checking.lent-refused n T a b w k [] four why e)
+  finished-lent why e = rw (checking.lent-refused n T a b w k (four ∷ []) why e)
 
   module _ (lends : lentChecks n T ≡ passes) where
     pub finished-window : (why : Refusal) → Edges.Refused why ≡ told → Finished.Refused why ≡ finished n T a b w k
     unfolding finished
-    finished-window why e = rw (checking.window-refused n T a b w k [] four lends why e)
+    finished-window why e = rw (checking.window-refused n T a b w k (four ∷ []) lends why e)
 
     pub finished-column : (x : Column) → Edges.Hours x ≡ told → (r : Finished) → FinishedOver n cs ks x r
         → r ≡ finished n T a b w k
     unfolding finished inOrder
     finished-column x e r F =
         let h = checking.edges-passed (windowChecks n a b w k) (column a b w k) x e in
-        rw (checking.window-passed n T a b w k [] four lends (h .0), then-passes four) (rw (h .1) at (F .answer))
+        rw (checking.window-passed n T a b w k (four ∷ []) lends (h .0), then-passes four) (rw (h .1) at (F .answer))
 
   -- A column stopped at depth d.
   module _ (d : ℕ) where
     abbrev examined : Check
-    examined = examineOpened l T (column a b w k) n d
+    examined = examineColumn l T (column a b w k) n (openedNodes l T (column a b w k) d)
 
-    pub stopped-lent : (why : Refusal) → Taking.Refused why ≡ takingBy (lentChecks n T)
+    pub stopped-lent : (why : Refusal) → Taking.Refused why ≡ answerBy Taking.Refused (lentChecks n T) Taking.Taken
         → Stopped.Refused why ≡ stopped n T a b w k d
     unfolding stopped
-    stopped-lent why e = rw (checking.lent-refused n T a b w k (checkDepth n d ∷ []) examined why e)
+    stopped-lent why e = rw (checking.lent-refused n T a b w k (checkDepth n d ∷ examined ∷ []) why e)
 
     module _ (lends : lentChecks n T ≡ passes) where
       pub stopped-window : (why : Refusal) → Edges.Refused why ≡ told → Stopped.Refused why ≡ stopped n T a b w k d
       unfolding stopped
-      stopped-window why e = rw (checking.window-refused n T a b w k (checkDepth n d ∷ []) examined lends why e)
+      stopped-window why e = rw (checking.window-refused n T a b w k (checkDepth n d ∷ examined ∷ []) lends why e)
 
       pub stopped-column : (x : Column) → Edges.Hours x ≡ told → (r : Stopped) → StoppedAt n cs ks x d r
           → r ≡ stopped n T a b w k d
       unfolding stopped
       stopped-column x e r S =
           let h = checking.edges-passed (windowChecks n a b w k) (column a b w k) x e in
-          rw (checking.window-passed n T a b w k (checkDepth n d ∷ []) examined lends (h .0))
+          rw (checking.window-passed n T a b w k (checkDepth n d ∷ examined ∷ []) lends (h .0))
           (rw (h .1) at (S .answer))
 
--- What the answer of a finished column that has an hour says of its checks.
-module _ (l : ℕ) (t : Table) (x : Column) (hours : leb (x .upto .0) (x .from .0) ≡ false) where
-  refused-by : (c : Check) (why : Refusal) → Finished.Refused why ≡ finishedBy l t x c → c ≡ refuses why
-  refused-by passes why g =
-      let h : Finished.Refused why ≡ Finished.Answered (answer l t x) (count l t x) = rw hours at g in
-      absurd (not-answered h)
+-- What the answer of a finished column says of its checks.
+module _ (n : ℕ) (t : Table) (x : Column) where
+  refused-by : (c : Check) (why : Refusal) → Finished.Refused why ≡ answerBy Finished.Refused c (finishedAnswer n t x)
+      → c ≡ refuses why
+  refused-by passes why g = absurd (not-answered g)
   refused-by (refuses r) why g = cc
 
-  answered-by : (c : Check) (a : Answer) (m : ℕ) → Finished.Answered a m ≡ finishedBy l t x c
-      → (c ≡ passes) × (a ≡ answer l t x)
-  answered-by passes a m g =
-      let h : Finished.Answered a m ≡ Finished.Answered (answer l t x) (count l t x) = rw hours at g in
-      (refl, cc)
+  answered-by : (c : Check) (a : Answer) (m : ℕ)
+      → Finished.Answered a m ≡ answerBy Finished.Refused c (finishedAnswer n t x)
+      → (c ≡ passes) × (a ≡ answer (levels n) t x)
+  answered-by passes a m g = (refl, cc)
   answered-by (refuses r) a m g = absurd (not-answered (sym g))
 
 -- The change of a day.
@@ -116,9 +111,9 @@ module _ (n : ℕ) (cs : List ℤ) (ks : List ℕ) (d : ℕ) where
   table = lent cs ks
 
   abbrev walked : Check
-  walked = examineFinished (levels n) table (day n d) n
+  walked = examineColumn (levels n) table (day n d) n (finishedNodes (levels n) table (day n d))
 
-  pub day-lent : (why : Refusal) → Taking.Refused why ≡ takingBy (lentChecks n table)
+  pub day-lent : (why : Refusal) → Taking.Refused why ≡ answerBy Taking.Refused (lentChecks n table) Taking.Taken
       → DayChange.Refused why ≡ dayChange n table d
   unfolding dayChange
   day-lent why e = rw (checking.day-lent-refused n table d walked why e)
@@ -129,21 +124,18 @@ module _ (n : ℕ) (cs : List ℤ) (ks : List ℕ) (d : ℕ) where
     day-late h = rw (checking.day-late n table d walked lends h)
 
     module _ (there : dayHours * d < n) (x : Column) (e : x ≡ day n d) where
-      abbrev hours : leb (day n d .upto .0) (day n d .from .0) ≡ false
-      hours = lt-leb (day n d .upto .0) (day n d .from .0) (day-hours n d there .0)
-
       pub day-refused : (why : Refusal) → FinishedOver n cs ks x (Finished.Refused why)
           → DayChange.Refused why ≡ dayChange n table d
       unfolding dayChange
       day-refused why F =
           rw (
             checking.day-there n table d walked lends there,
-            refused-by (levels n) table (day n d) hours walked why (rw e at (F .answer)),
+            refused-by n table (day n d) walked why (rw e at (F .answer)),
           )
 
       pub day-answered : (a : Answer) (m : ℕ) → FinishedOver n cs ks x (Finished.Answered a m)
           → changeOf a ≡ dayChange n table d
       unfolding dayChange
       day-answered a m F =
-          let g = answered-by (levels n) table (day n d) hours walked a m (rw e at (F .answer)) in
+          let g = answered-by n table (day n d) walked a m (rw e at (F .answer)) in
           rw (checking.day-there n table d walked lends there, g .0, g .1)

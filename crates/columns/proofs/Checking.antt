@@ -15,14 +15,13 @@ use Rattle.words.specs.declared.Edges.{Edges}
 use Rattle.words.specs.declared.Taking.{Taking}
 use Rattle.om3.specs.Series.{badHours}
 use Rattle.om3.specs.Table.{Table, lent}
-use Rattle.om3.specs.Checks.{Check, passes, refuses, andThen, inOrder}
-use Rattle.om3.specs.Calls.{takingBy}
-use Rattle.om3.specs.Refusals.{checkHours, checkRoom, tableShort, TableLent, checkWindow, checkDay, checkColumn}
-use Rattle.om3.specs.Refusals.{edgesChecks, columnChecks, dayChecks}
-use Rattle.om3.specs.Columns.{column, edgesBy}
+use Rattle.om3.specs.Checks.{Check, passes, refuses, andThen, inOrder, answerBy}
+use Rattle.om3.specs.Refusals.{checkHours, checkRoom, tableShort, checkWindow, checkDay, checkColumn}
+use Rattle.om3.specs.Columns.{column, edgesChecks}
+use Rattle.sizes.specs.Lent.{TableLent}
 use Rattle.om3.proofs.Tests.{and-left, and-right, neither}
 use Rattle.om3.proofs.Examined.{then-passes, in-order-append, first-absent}
-use Rattle.om3.proofs.Lent.{table-lent as lent-whole}
+use Rattle.sizes.proofs.Lent.{table-lent as lent-whole}
 use Rattle.om3.proofs.Taken.{taken-passes, refused-refuses}
 use Rattle.columns.specs.Drawing.{Edged, lentChecks, windowChecks}
 
@@ -31,20 +30,21 @@ module _ (n : ℕ) (cs : List ℤ) (ks : List ℕ) where
   abbrev T : Table
   T = lent cs ks
 
-  pub bad-hours : badHours n ≡ true → Taking.Refused BadHours ≡ takingBy (lentChecks n T)
+  pub bad-hours : badHours n ≡ true → Taking.Refused BadHours ≡ answerBy Taking.Refused (lentChecks n T) Taking.Taken
   unfolding inOrder
   bad-hours b = rw b
 
   module _ (good : badHours n ≡ false) where
-    pub short-table : tableShort n T ≡ true → Taking.Refused ShortBuffer ≡ takingBy (lentChecks n T)
+    pub short-table : tableShort n T ≡ true
+        → Taking.Refused ShortBuffer ≡ answerBy Taking.Refused (lentChecks n T) Taking.Taken
     unfolding inOrder
     short-table h = rw (good, h)
 
-    pub enough : tableShort n T ≡ false → Taking.Taken ≡ takingBy (lentChecks n T)
+    pub enough : tableShort n T ≡ false → Taking.Taken ≡ answerBy Taking.Refused (lentChecks n T) Taking.Taken
     unfolding inOrder
     enough h = rw (good, h)
 
-  pub lent-passes : Taking.Taken ≡ takingBy (lentChecks n T) → lentChecks n T ≡ passes
+  pub lent-passes : Taking.Taken ≡ answerBy Taking.Refused (lentChecks n T) Taking.Taken → lentChecks n T ≡ passes
   lent-passes taken = taken-passes (lentChecks n T) taken
 
   -- They have passed: the table is lent.
@@ -62,7 +62,7 @@ module _ (n a b w k : ℕ) where
   none = eqb w 0 || ltb mostColumns w || leb w k
 
   abbrev told : Edges
-  told = edgesBy (windowChecks n a b w k) (column a b w k)
+  told = answerBy Edges.Refused (windowChecks n a b w k) (Edges.Hours (column a b w k))
 
   pub bad-window : outside ≡ true → Edges.Refused BadWindow ≡ told
   unfolding inOrder
@@ -92,59 +92,65 @@ module _ (n a b w k : ℕ) where
     window-hours x g = rw (e, f, g)
 
 -- What the answer of these checks says of them.
-pub edges-refused : (c : Check) (x : Column) (why : Refusal) → Edges.Refused why ≡ edgesBy c x → c ≡ refuses why
+pub edges-refused : (c : Check) (x : Column) (why : Refusal)
+    → Edges.Refused why ≡ answerBy Edges.Refused c (Edges.Hours x) → c ≡ refuses why
 edges-refused passes x why e = cc
 edges-refused (refuses r) x why e = cc
 
-pub edges-passed : (c : Check) (x y : Column) → Edges.Hours y ≡ edgesBy c x → (c ≡ passes) × (y ≡ x)
+pub edges-passed : (c : Check) (x y : Column) → Edges.Hours y ≡ answerBy Edges.Refused c (Edges.Hours x)
+    → (c ≡ passes) × (y ≡ x)
 edges-passed passes x y e = (refl, cc)
 edges-passed (refuses r) x y e = let z : _≡_ {A = ℕ} 0 1 = cc in absurd (omega arith)
 
--- The checks of a whole call, in these parts: the first that refuses decides.
-module _ (n : ℕ) (t : Table) (a b w k : ℕ) (seven : List Check) (four : Check) where
+-- The checks of a whole call, in these parts and then the rest: the first that refuses decides.
+module _ (n : ℕ) (t : Table) (a b w k : ℕ) (rest : List Check) where
   abbrev whole : Check
-  whole = columnChecks n t a b w k seven four
+  whole =
+      inOrder (checkHours n ∷ checkRoom (tableShort n t) ∷ checkWindow n a b ∷ checkColumn w k ∷ rest)
 
-  parted : whole ≡ andThen (lentChecks n t) (andThen (windowChecks n a b w k) (inOrder (seven ++ four ∷ [])))
+  parted : whole ≡ andThen (lentChecks n t) (andThen (windowChecks n a b w k) (inOrder rest))
   parted =
       in-order-append (checkHours n ∷ checkRoom (tableShort n t) ∷ []) _
       ∙ ap (andThen (lentChecks n t)) (in-order-append (checkWindow n a b ∷ checkColumn w k ∷ []) _)
 
-  pub lent-refused : (why : Refusal) → Taking.Refused why ≡ takingBy (lentChecks n t) → whole ≡ refuses why
+  pub lent-refused : (why : Refusal) → Taking.Refused why ≡ answerBy Taking.Refused (lentChecks n t) Taking.Taken
+      → whole ≡ refuses why
   lent-refused why e = parted ∙ rw (refused-refuses (lentChecks n t) why e)
 
   module _ (lends : lentChecks n t ≡ passes) where
-    pub window-refused : (why : Refusal) → Edges.Refused why ≡ edgesBy (windowChecks n a b w k) (column a b w k)
-        → whole ≡ refuses why
+    pub window-refused : (why : Refusal) → Edges.Refused why ≡ told n a b w k → whole ≡ refuses why
     window-refused why e = parted ∙ rw (lends, edges-refused (windowChecks n a b w k) (column a b w k) why e)
 
-    pub window-passed : windowChecks n a b w k ≡ passes → whole ≡ inOrder (seven ++ four ∷ [])
+    pub window-passed : windowChecks n a b w k ≡ passes → whole ≡ inOrder rest
     window-passed e = parted ∙ rw (lends, e)
 
 -- The edges alone have no check 3.
-pub edges-hours : (n a b w k : ℕ) → badHours n ≡ true → edgesChecks n a b w k ≡ refuses BadHours
+pub edges-hours : (n a b w k : ℕ) → badHours n ≡ true → inOrder (edgesChecks n a b w k) ≡ refuses BadHours
 unfolding inOrder
 edges-hours n a b w k bad = rw bad
 
-pub edges-parted : (n a b w k : ℕ) → badHours n ≡ false → edgesChecks n a b w k ≡ windowChecks n a b w k
+pub edges-parted : (n a b w k : ℕ) → badHours n ≡ false → inOrder (edgesChecks n a b w k) ≡ windowChecks n a b w k
 unfolding inOrder
 edges-parted n a b w k good = rw good
 
 -- The day's checks.
 module _ (n : ℕ) (t : Table) (d : ℕ) (four : Check) where
-  day-parted : dayChecks n t d four ≡ andThen (lentChecks n t) (andThen (checkDay n d) four)
+  abbrev day-whole : Check
+  day-whole = inOrder (checkHours n ∷ checkRoom (tableShort n t) ∷ checkDay n d ∷ four ∷ [])
+
+  day-parted : day-whole ≡ andThen (lentChecks n t) (andThen (checkDay n d) four)
   unfolding inOrder
   day-parted =
       in-order-append (checkHours n ∷ checkRoom (tableShort n t) ∷ []) (checkDay n d ∷ four ∷ [])
       ∙ rw (then-passes four)
 
-  pub day-lent-refused : (why : Refusal) → Taking.Refused why ≡ takingBy (lentChecks n t)
-      → dayChecks n t d four ≡ refuses why
+  pub day-lent-refused : (why : Refusal) → Taking.Refused why ≡ answerBy Taking.Refused (lentChecks n t) Taking.Taken
+      → day-whole ≡ refuses why
   day-lent-refused why e = day-parted ∙ rw (refused-refuses (lentChecks n t) why e)
 
   module _ (lends : lentChecks n t ≡ passes) where
-    pub day-late : n ≤ dayHours * d → dayChecks n t d four ≡ refuses BadWindow
+    pub day-late : n ≤ dayHours * d → day-whole ≡ refuses BadWindow
     day-late h = day-parted ∙ rw (lends, le-leb n (dayHours * d) h)
 
-    pub day-there : dayHours * d < n → dayChecks n t d four ≡ four
+    pub day-there : dayHours * d < n → day-whole ≡ four
     day-there h = day-parted ∙ rw (lends, lt-leb n (dayHours * d) h)

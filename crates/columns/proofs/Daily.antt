@@ -15,7 +15,7 @@ use Rattle.words.specs.declared.Column.{Column}
 use Rattle.words.specs.declared.Summary.{Summary}
 use Rattle.om3.specs.Series.{hour}
 use Rattle.om3.specs.Days.{day}
-use Rattle.walking.specs.Descending.{Small}
+use Rattle.walking.specs.Walking.{Small}
 use Rattle.columns.specs.Drawing.{SmallAnswer}
 
 -- A day that is not over by hour n is cut there; any other has its 24 hours.

@@ -1,4 +1,4 @@
--- The descents from the first and from the last inner node, for each of their answers. Assumes nothing.
+-- The walks from the first and from the last inner node, for each of their answers. Assumes nothing.
 use mathlib.Core.Path.{_≡_, refl, sym}
 use mathlib.Core.List.{List}
 use Prim.Native.Nat.{ℕ, _+_, _-_}
@@ -11,8 +11,8 @@ use Rattle.words.specs.declared.NodeId.{NodeId}
 use Rattle.words.specs.declared.Range.{Range}
 use Rattle.words.specs.declared.Reading.{Reading}
 use Rattle.words.specs.declared.Refusal.the-variants.{Unsound}
-use Rattle.walking.specs.Descending.{DescendedFrom}
-use Rattle.walking.specs.declared.Descended.{Descended}
+use Rattle.walking.specs.Walking.{WalkedFrom}
+use Rattle.walking.specs.declared.Walked.{Walked}
 use Rattle.walking.specs.declared.Reached.{Reached}
 use Rattle.walking.specs.declared.Towards.{Towards}
 use Rattle.columns.specs.Drawing.{Answers, FoundFrom}
@@ -22,24 +22,24 @@ module _ (n : ℕ) (cs : List ℤ) (ks : List ℕ) (range : Range) (first last :
   abbrev Found : Finished → Type 0
   Found r = FoundFrom n cs ks range first last count r
 
-  pub first-unsound : (i : NodeId) → DescendedFrom n cs ks Towards.First 0 first (Descended.Unsound i)
+  pub first-unsound : (i : NodeId) → WalkedFrom n cs ks Towards.First 0 first (Walked.Unsound i)
       → Found (Finished.Refused (Unsound i))
   first-unsound i F =
-      record { answers = refused-small; answer = λ l u v p q. rw (sym (F .descends l u p .examined)) }
+      record { answers = refused-small; answer = λ l u v p q. rw (sym (F .walks l u p .examined)) }
 
   module _ (reading : Reading) (m : ℕ)
-      (F : DescendedFrom n cs ks Towards.First 0 first (Descended.Came reading m)) where
-    pub last-unsound : (i : NodeId) → DescendedFrom n cs ks Towards.Last 0 last (Descended.Unsound i)
+      (F : WalkedFrom n cs ks Towards.First 0 first (Walked.Came reading m)) where
+    pub last-unsound : (i : NodeId) → WalkedFrom n cs ks Towards.Last 0 last (Walked.Unsound i)
         → Found (Finished.Refused (Unsound i))
     last-unsound i L =
         record {
           answers = refused-small;
           answer = λ l u v p q.
-              rw (sym (F .descends l u p .examined), sym (L .descends l v q .examined));
+              rw (sym (F .walks l u p .examined), sym (L .walks l v q .examined));
         }
 
     module _ (latest : Reading) (k : ℕ)
-        (L : DescendedFrom n cs ks Towards.Last 0 last (Descended.Came latest k)) where
+        (L : WalkedFrom n cs ks Towards.Last 0 last (Walked.Came latest k)) where
       abbrev summary : Answer
       summary = Answer.Found (record { first = reading; last = latest; low = lowOf range; high = highOf range })
 
@@ -56,8 +56,8 @@ module _ (n : ℕ) (cs : List ℤ) (ks : List ℕ) (range : Range) (first last :
           record {
             answers = found-small;
             answer = λ l u v p q.
-                let one = F .descends l u p in
-                let two = L .descends l v q in
+                let one = F .walks l u p in
+                let two = L .walks l v q in
                 let e = one .ends reading m refl in
                 let f = two .ends latest k refl in
                 let walked : count + m + k ≡ count + (l - u .level) + (l - v .level) =

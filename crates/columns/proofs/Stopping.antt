@@ -1,4 +1,4 @@
--- A column stopped at a depth, for each answer of the walk. Assumes nothing.
+-- A column stopped at a depth, for each answer of the visit. Assumes nothing.
 use mathlib.Core.Path.{_≡_, refl, sym}
 use mathlib.Core.List.{List, [], _∷_}
 use Prim.Native.Nat.{ℕ, _+_, _-_, _*_, _^_, _≤_, _<_}
@@ -13,12 +13,13 @@ use Rattle.om3.specs.Series.{levels}
 use Rattle.om3.specs.Nodes.{Node}
 use Rattle.om3.specs.Table.{Table, lent}
 use Rattle.om3.specs.Checks.{inOrder}
-use Rattle.om3.specs.Stopped.{examineOpened, countAt, rangeOver}
+use Rattle.om3.specs.Stopped.{openedNodes, countAt, rangeOver, examineColumn}
 use Rattle.om3.proofs.Examined.{then-passes}
+use Rattle.om3.proofs.WithoutHours.{none-outer, none-inner, none-count}
 use Rattle.walking.specs.Seen.{innerOver}
-use Rattle.walking.specs.Walking.{StopsAt, TableWalked}
+use Rattle.walking.specs.Visiting.{StopsAt, TableVisited}
 use Rattle.walking.specs.declared.Seen.{Seen}
-use Rattle.walking.specs.declared.Walked.{Walked}
+use Rattle.walking.specs.declared.Visited.{Visited}
 use Rattle.columns.specs.Drawing.{innerRange, StoppedOver, StoppedAt}
 
 -- The range of inner nodes is the range over them.
@@ -38,13 +39,15 @@ module _ (n : ℕ) (cs : List ℤ) (ks : List ℕ) (x : Column) (stop : ℕ) whe
   pub stopped-none : x .upto .0 ≤ x .from .0 → StoppedOver n cs ks x stop (Stopped.Ranges Empty Empty 0)
   stopped-none h =
       let none = le-leb (x .upto .0) (x .from .0) h in
-      record { answer = λ d deep stops. rw none (rw none) }
+      record {
+        answer = λ d deep stops. rw (none, none-outer l T x h d, none-inner l T x h d, none-count l T x h d);
+      }
 
   module _ (some : x .from .0 < x .upto .0) where
     asked : (d : ℕ) → d ≤ l → stop ≡ 2 ^ (l - d) → StopsAt l d x stop
     asked d deep stops = record { deep = deep; stops = stops; some = some }
 
-    pub stopped-unsound : (i : NodeId) → TableWalked n cs ks x stop (Walked.Unsound i)
+    pub stopped-unsound : (i : NodeId) → TableVisited n cs ks x stop (Visited.Unsound i)
         → StoppedOver n cs ks x stop (Stopped.Refused (Unsound i))
     stopped-unsound i W =
         record {
@@ -52,7 +55,7 @@ module _ (n : ℕ) (cs : List ℤ) (ks : List ℕ) (x : Column) (stop : ℕ) whe
               rw (lt-leb (x .upto .0) (x .from .0) some, sym (W .examined d (asked d deep stops)));
         }
 
-    pub stopped-seen : (s : Seen) → TableWalked n cs ks x stop (Walked.Through s)
+    pub stopped-seen : (s : Seen) → TableVisited n cs ks x stop (Visited.Through s)
         → StoppedOver n cs ks x stop (Stopped.Ranges (s .outer) (innerRange (s .inner)) (1 + 2 * s .opened))
     unfolding countAt
     stopped-seen s W =
@@ -60,7 +63,7 @@ module _ (n : ℕ) (cs : List ℤ) (ks : List ℕ) (x : Column) (stop : ℕ) whe
           answer = λ d deep stops.
               let a = asked d deep stops in
               let hours = lt-leb (x .upto .0) (x .from .0) some in
-              rw (hours, sym (W .examined d a)) (rw (hours, W .saw d a s refl, inner-range l T));
+              rw (hours, sym (W .examined d a), W .saw d a s refl, inner-range l T);
         }
 
 -- Check 7, and then the column at that depth.
@@ -73,7 +76,9 @@ module _ (n : ℕ) (cs : List ℤ) (ks : List ℕ) (x : Column) (d : ℕ) where
       → StoppedOver n cs ks x stop r → StoppedAt n cs ks x d r
   unfolding inOrder
   deep-enough h stop e r S =
+      let l = levels n in
+      let T = lent cs ks in
       record {
         answer =
-            rw (le-ltb (levels n) d h, then-passes (examineOpened (levels n) (lent cs ks) x n d)) (S .answer d h e);
+            rw (le-ltb (levels n) d h, then-passes (examineColumn l T x n (openedNodes l T x d))) (S .answer d h e);
       }

@@ -6,11 +6,11 @@
 --   innerRange i           the range over the nodes of an inner range
 --   StoppedOver            the contract of a column stopped at nodes of so many hours, its buffers lent
 --   StoppedAt              the contract of check 7 and of the column stopped at that depth, its buffers lent
---   answeredBy c a m       a finished answer a with its count m, or the refusal of a check c
+--   stoppedAnswer          what a column answers whose examination passes, stopped at a depth; finishedAnswer, finished
 --   SmallAnswer a          first and last reading of an answer are small enough to subtract
 --   Answers r              every answer of r is so
 --   walksCheck, foundOf    the examination of the walks from node u and from node v, and the answer they lead to
---   FoundFrom              the contract of the descents from the first and the last inner node
+--   FoundFrom              the contract of the walks from the first and the last inner node
 --   FinishedOver           the contract of a finished column, its buffers lent
 use mathlib.Core.Path.{_≡_}
 use mathlib.Core.List.{List, [], _∷_}
@@ -27,13 +27,13 @@ use Rattle.words.specs.declared.Stopped.{Stopped}
 use Rattle.om3.specs.Series.{levels}
 use Rattle.om3.specs.Nodes.{Node}
 use Rattle.om3.specs.Table.{Table, lent}
-use Rattle.om3.specs.Checks.{Check, passes, refuses, andThen, inOrder}
-use Rattle.om3.specs.Refusals.{checkHours, tableShort, checkRoom, checkWindow, checkColumn, checkDepth}
-use Rattle.om3.specs.Stopped.{examineOpened, stoppedBy}
-use Rattle.om3.specs.Finished.{walk, walkEnd, towardsFirst, towardsLast, readingAt, examineFinished, finishedBy}
+use Rattle.om3.specs.Checks.{Check, andThen, inOrder, answerBy}
 use Rattle.om3.specs.Sound.{examineNodes}
+use Rattle.om3.specs.Refusals.{checkHours, tableShort, checkRoom, checkWindow, checkColumn, checkDepth}
+use Rattle.om3.specs.Stopped.{openedNodes, countAt, outer, inner, examineColumn}
+use Rattle.om3.specs.Finished.{nodesOf, endOf, firstWalk, lastWalk, readingAt, answer, count, finishedNodes}
 use Rattle.walking.specs.Nodes.{At}
-use Rattle.walking.specs.Descending.{Small}
+use Rattle.walking.specs.Walking.{Small}
 use Rattle.walking.specs.declared.Inner.{Inner}
 use Rattle.walking.specs.declared.Reached.{Reached}
 
@@ -58,20 +58,23 @@ abbrev pub innerRange : Inner → Range
 innerRange Inner.Nothing = Empty
 innerRange (Inner.Nodes range first last) = range
 
+-- Both ranges and the count at depth d, in a table of n hours.
+abbrev pub stoppedAnswer : ℕ → Table → Column → ℕ → Stopped
+stoppedAnswer n t x d =
+    let l = levels n in
+    Stopped.Ranges (outer l t x d) (inner l t x d) (countAt l t x d)
+
 -- The answer is that of every depth d up to l whose nodes cover so many hours.
 pub record StoppedOver (n : ℕ) (cs : List ℤ) (ks : List ℕ) (x : Column) (stop : ℕ) (r : Stopped) : Type 0 where
   pub answer : (d : ℕ) → d ≤ levels n → stop ≡ 2 ^ (levels n - d)
-      → r ≡ stoppedBy (levels n) (lent cs ks) x (examineOpened (levels n) (lent cs ks) x n d) d
+      → (let l = levels n in let t = lent cs ks in
+      r ≡ answerBy Stopped.Refused (examineColumn l t x n (openedNodes l t x d)) (stoppedAnswer n t x d))
 
 -- Check 7 comes first, then the examination, then the answer. [refusals 17]
 pub record StoppedAt (n : ℕ) (cs : List ℤ) (ks : List ℕ) (x : Column) (d : ℕ) (r : Stopped) : Type 0 where
-  pub answer : r ≡ stoppedBy (levels n) (lent cs ks) x
-      (inOrder (checkDepth n d ∷ examineOpened (levels n) (lent cs ks) x n d ∷ [])) d
-
--- The answer with its count if the check passes, else its refusal.
-abbrev pub answeredBy : Check → Answer → ℕ → Finished
-answeredBy passes a m = Finished.Answered a m
-answeredBy (refuses why) a m = Finished.Refused why
+  pub answer : (let l = levels n in let t = lent cs ks in
+      r ≡ answerBy Stopped.Refused
+      (inOrder (checkDepth n d ∷ examineColumn l t x n (openedNodes l t x d) ∷ [])) (stoppedAnswer n t x d))
 
 -- Both from −1,000,000 to 2,000,003, so that their difference is a number of 32 bits.
 abbrev pub SmallAnswer : Answer → Type 0
@@ -85,16 +88,15 @@ pub record Answers (r : Finished) : Type 0 where
 -- The walk to the first reading is examined from u down, then that to the last from v down. [columns 15, 16]
 abbrev pub walksCheck : (l n : ℕ) → Table → Node → Node → Check
 walksCheck l n t u v =
-    andThen (examineNodes l n t (walk (towardsFirst l t) (l - u .level) u))
-    (examineNodes l n t (walk (towardsLast l t) (l - v .level) v))
+    andThen (examineNodes l n t (nodesOf l (firstWalk l t u))) (examineNodes l n t (nodesOf l (lastWalk l t v)))
 
 -- The readings at the ends of the two walks, with the low and the high of the inner range. [columns 15, 16]
 abbrev pub foundOf : (l : ℕ) → Table → Range → Node → Node → Answer
 foundOf l t range u v =
     Answer.Found
     (record {
-      first = readingAt l t (walkEnd (towardsFirst l t) (l - u .level) u);
-      last = readingAt l t (walkEnd (towardsLast l t) (l - v .level) v);
+      first = readingAt l t (endOf l (firstWalk l t u));
+      last = readingAt l t (endOf l (lastWalk l t v));
       low = lowOf range;
       high = highOf range;
     })
@@ -105,10 +107,15 @@ pub record FoundFrom (n : ℕ) (cs : List ℤ) (ks : List ℕ) (range : Range) (
     (r : Finished) : Type 0 where
   pub answers : Answers r
   pub answer : (l : ℕ) (u v : Node) → At l (lent cs ks) u first → At l (lent cs ks) v last
-      → r ≡ answeredBy (walksCheck l n (lent cs ks) u v) (foundOf l (lent cs ks) range u v)
-      (count + (l - u .level) + (l - v .level))
+      → r ≡ answerBy Finished.Refused (walksCheck l n (lent cs ks) u v)
+      (Finished.Answered (foundOf l (lent cs ks) range u v) (count + (l - u .level) + (l - v .level)))
+
+-- The finished answer with its count, in a table of n hours.
+abbrev pub finishedAnswer : ℕ → Table → Column → Finished
+finishedAnswer n t x = Finished.Answered (answer (levels n) t x) (count (levels n) t x)
 
 -- The answer is the definition's, after its examination.
 pub record FinishedOver (n : ℕ) (cs : List ℤ) (ks : List ℕ) (x : Column) (r : Finished) : Type 0 where
   pub answers : Answers r
-  pub answer : r ≡ finishedBy (levels n) (lent cs ks) x (examineFinished (levels n) (lent cs ks) x n)
+  pub answer : (let l = levels n in let t = lent cs ks in
+      r ≡ answerBy Finished.Refused (examineColumn l t x n (finishedNodes l t x)) (finishedAnswer n t x))

@@ -3,10 +3,10 @@
 mod days;
 mod window;
 
-use walking::Descended;
 use walking::Inner;
 use walking::Reached;
 use walking::Towards;
+use walking::Visited;
 use walking::Walked;
 use words::Answer;
 use words::Column;
@@ -23,13 +23,13 @@ ghost use mathlib.Core.Path.{_≡_};
 ghost use Prim.Native.Nat.{_+_, _*_, _≤_};
 ghost use Rattle.words.specs.Constants.{largestHours};
 ghost use Rattle.om3.specs.Table.{lent as table};
-ghost use Rattle.om3.specs.Refusals.{TableLent};
-ghost use Rattle.om3.specs.Calls.{takingBy};
+ghost use Rattle.om3.specs.Checks.{answerBy};
 ghost use Rattle.om3.specs.Columns.{edges as edgesOf};
 ghost use Rattle.om3.specs.Stopped.{stopped as stoppedOf};
 ghost use Rattle.om3.specs.Finished.{finished as finishedOf};
 ghost use Rattle.om3.specs.Joined.{joined};
 ghost use Rattle.om3.specs.Days.{dayChange};
+ghost use Rattle.sizes.specs.Lent.{TableLent};
 ghost use Rattle.walking.specs.Nodes.{Below};
 ghost use Rattle.columns.specs.Drawing.{lentChecks, innerRange};
 ghost use Rattle.columns.specs.Drawing.{StoppedOver, StoppedAt, FoundFrom, FinishedOver};
@@ -49,7 +49,8 @@ pub fn edges(n: usize, a: Timestamp, b: Timestamp, w: usize, k: usize) -> Edges
 
 // Checks 1 and 3 of a table.
 fn check_lent(n: usize, coefficients: &[i32], codes: &[u8]) -> Taking
-    ensures { λ r. ⌜ r ≡ takingBy (lentChecks n (table (now (coefficients .entry)) (now (codes .entry)))) ⌝ }
+    ensures { λ r. ⌜ r ≡ answerBy Taking.Refused
+        (lentChecks n (table (now (coefficients .entry)) (now (codes .entry)))) Taking.Taken ⌝ }
 {
     if sizes::bad_hours(n) {
         return Taking::Refused(Refusal::BadHours);
@@ -97,9 +98,9 @@ fn stopped_over(n: usize, coefficients: &[i32], codes: &[u8], x: Column, stop: u
             count: NO_NODES,
         };
     }
-    match walking::walk_table(n, coefficients, codes, x, stop) {
-        Walked::Unsound(i) => Stopped::Refused(Refusal::Unsound(i)),
-        Walked::Through(seen) => {
+    match walking::visit_table(n, coefficients, codes, x, stop) {
+        Visited::Unsound(i) => Stopped::Refused(Refusal::Unsound(i)),
+        Visited::Through(seen) => {
             let outer = seen.outer;
             let nodes = seen.inner;
             let inner = inner_range(nodes);
@@ -152,7 +153,7 @@ pub fn stopped(
     }
 }
 
-// A column whose first and last inner node these are: the descents to its first and to its last reading. Needs both
+// A column whose first and last inner node these are: the walks to its first and to its last reading. Needs both
 // nodes, of at most 16,384 hours, with all below them, in the lent buffers, and a count of at most 32,768. [forms 7]
 fn found(
     n: usize,
@@ -167,12 +168,12 @@ fn found(
     requires { ⌜ (first .hours ≤ largestHours) × (last .hours ≤ largestHours) × (count ≤ 2 * largestHours) ⌝ }
     ensures { λ r. ⌜ FoundFrom n (now (coefficients .entry)) (now (codes .entry)) range first last count r ⌝ }
 {
-    match walking::descend(n, coefficients, codes, Towards::First, first) {
-        Descended::Unsound(i) => Finished::Refused(Refusal::Unsound(i)),
-        Descended::Came { reading, levels } => {
-            match walking::descend(n, coefficients, codes, Towards::Last, last) {
-                Descended::Unsound(i) => Finished::Refused(Refusal::Unsound(i)),
-                Descended::Came {
+    match walking::walk(n, coefficients, codes, Towards::First, first) {
+        Walked::Unsound(i) => Finished::Refused(Refusal::Unsound(i)),
+        Walked::Came { reading, levels } => {
+            match walking::walk(n, coefficients, codes, Towards::Last, last) {
+                Walked::Unsound(i) => Finished::Refused(Refusal::Unsound(i)),
+                Walked::Came {
                     reading: latest,
                     levels: further,
                 } => {
@@ -204,9 +205,9 @@ fn finished_over(n: usize, coefficients: &[i32], codes: &[u8], x: Column) -> Fin
             count: NO_NODES,
         };
     }
-    match walking::walk_table(n, coefficients, codes, x, 1) {
-        Walked::Unsound(i) => Finished::Refused(Refusal::Unsound(i)),
-        Walked::Through(seen) => {
+    match walking::visit_table(n, coefficients, codes, x, 1) {
+        Visited::Unsound(i) => Finished::Refused(Refusal::Unsound(i)),
+        Visited::Through(seen) => {
             let nodes = seen.inner;
             let count = count_of(seen.opened);
             match nodes {

@@ -14,7 +14,7 @@ use borrow.Author.Tests.{lt-ltb, le-ltb, le-leb, lt-leb}
 use Rattle.words.specs.Constants.{largestLevel, largestHours}
 use Rattle.words.specs.declared.Stretch.{Stretch}
 use Rattle.om3.specs.Series.{badHours, levels, P}
-use Rattle.om3.specs.Level.{hasLevel, levelStretch, levelPart}
+use Rattle.om3.specs.Level.{hasLevel, levelStretch, placesOf}
 use Rattle.om3.proofs.Tests.{below-or-not}
 use Rattle.om3.proofs.Levels.{levels-most}
 use Rattle.om3.proofs.Answers.{stretch-within}
@@ -79,7 +79,7 @@ module _ (n j : ℕ) (cs : List ℤ) (r : Stretch) (e : r ≡ levelStretch n j (
   pub part-fits : r .start + r .length ≤ length cs
   part-fits = rw e (stretch-within n j (length cs))
 
-  pub part-is : take (r .start + r .length - r .start) (drop (r .start) cs) ≡ levelPart n j cs
+  pub part-is : take (r .start + r .length - r .start) (drop (r .start) cs) ≡ placesOf (levelStretch n j (length cs)) cs
   part-is =
       let m : r .start + r .length - r .start ≡ r .length = omega arith in
       rw (m, e)

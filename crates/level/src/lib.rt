@@ -1,7 +1,8 @@
 // One level of the table.
 use words::Stretch;
 ghost use mathlib.Core.Path.{_≡_};
-ghost use Rattle.om3.specs.Level.{levelStretch, levelPart};
+ghost use lib.ListN.{length};
+ghost use Rattle.om3.specs.Level.{levelStretch, placesOf};
 
 // The places of level j's details in a table of n hours lent as so many coefficients, or no place.
 pub fn stretch(n: usize, j: usize, lent: usize) -> Stretch
@@ -35,7 +36,8 @@ pub fn stretch(n: usize, j: usize, lent: usize) -> Stretch
 // That stretch of the lent coefficients itself. This call returns no number: where there is no such level, and for the
 // causes of 1 and 3, its part has length 0. [forms 5]
 pub fn level(n: usize, j: usize, coefficients: &[i32]) -> &[i32]
-    ensures { λ r. ⌜ now r ≡ levelPart n j (now (coefficients .entry)) ⌝ }
+    ensures { λ r. ⌜ now r
+        ≡ placesOf (levelStretch n j (length (now (coefficients .entry)))) (now (coefficients .entry)) ⌝ }
 {
     let part = stretch(n, j, coefficients.len());
     let start = part.start;

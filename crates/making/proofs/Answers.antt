@@ -14,11 +14,12 @@ use Rattle.words.specs.declared.Taking.{Taking}
 use Rattle.om3.specs.Series.{badHours, levels, P}
 use Rattle.om3.specs.Nodes.{root}
 use Rattle.om3.specs.Table.{Table, lent}
-use Rattle.om3.specs.Checks.{refuses, inOrder}
-use Rattle.om3.specs.Refusals.{short, tableShort, TableLent, checkReadings, makingChecks}
-use Rattle.om3.specs.Calls.{takingBy}
+use Rattle.om3.specs.Checks.{refuses, inOrder, answerBy}
+use Rattle.om3.specs.Refusals.{short, tableShort, checkReadings}
+use Rattle.om3.specs.Calls.{makingChecks}
+use Rattle.sizes.specs.Lent.{TableLent}
 use Rattle.om3.proofs.Levels.{levels-some}
-use Rattle.om3.proofs.Located.{root-located}
+use Rattle.node.proofs.Located.{root-located}
 use Rattle.om3.proofs.Taken.{taken-passes, refused-refuses, making-decided}
 use Rattle.making.specs.Making.{Filled, Tabled, Made}
 use Rattle.making.proofs.Details.{coefficients-made}
@@ -42,13 +43,13 @@ module _ (n : ℕ) (s : List ℤ) (cs : List ℤ) (ks : List ℕ) where
   T = lent cs ks
 
   -- A refusal leaves both buffers as they were.
-  refused : (why : Refusal) → makingChecks n s T ≡ refuses why → Made n s cs ks cs ks (Taking.Refused why)
+  refused : (why : Refusal) → inOrder (makingChecks n s T) ≡ refuses why → Made n s cs ks cs ks (Taking.Refused why)
   refused why e = record { answer = rw e; coefficients = rw e; codes = rw e }
 
   pub bad-hours : badHours n ≡ true → Made n s cs ks cs ks (Taking.Refused BadHours)
   bad-hours b = refused BadHours checks
     where
-      checks : makingChecks n s T ≡ refuses BadHours
+      checks : inOrder (makingChecks n s T) ≡ refuses BadHours
       checks = unfold inOrder in rw b
 
   module _ (good : badHours n ≡ false) where
@@ -56,7 +57,7 @@ module _ (n : ℕ) (s : List ℤ) (cs : List ℤ) (ks : List ℕ) where
     no-room : (short (length s) n || tableShort n T) ≡ true → Made n s cs ks cs ks (Taking.Refused ShortBuffer)
     no-room e = refused ShortBuffer checks
       where
-        checks : makingChecks n s T ≡ refuses ShortBuffer
+        checks : inOrder (makingChecks n s T) ≡ refuses ShortBuffer
         checks = unfold inOrder in rw (good, e)
 
     pub few-readings : length s < n → Made n s cs ks cs ks (Taking.Refused ShortBuffer)
@@ -67,14 +68,16 @@ module _ (n : ℕ) (s : List ℤ) (cs : List ℤ) (ks : List ℕ) where
       short-table h = no-room (rw (le-ltb (length s) n read, h))
 
       module _ (room : tableShort n T ≡ false) where
-        last : makingChecks n s T ≡ checkReadings n s
+        last : inOrder (makingChecks n s T) ≡ checkReadings n s
         last = making-decided n good s T (rw (le-ltb (length s) n read, room))
 
-        pub bad-reading : (why : Refusal) → Taking.Refused why ≡ takingBy (checkReadings n s)
+        pub bad-reading : (why : Refusal)
+            → Taking.Refused why ≡ answerBy Taking.Refused (checkReadings n s) Taking.Taken
             → Made n s cs ks cs ks (Taking.Refused why)
         bad-reading why e = refused why (last ∙ refused-refuses (checkReadings n s) why e)
 
-        pub taken : Taking.Taken ≡ takingBy (checkReadings n s) → (cs₁ : List ℤ) (ks₁ : List ℕ)
+        pub taken : Taking.Taken ≡ answerBy Taking.Refused (checkReadings n s) Taking.Taken
+            → (cs₁ : List ℤ) (ks₁ : List ℕ)
             → Tabled n s cs ks cs₁ ks₁ → Made n s cs ks cs₁ ks₁ Taking.Taken
         taken e cs₁ ks₁ t =
             let ok = last ∙ taken-passes (checkReadings n s) e in

@@ -9,7 +9,7 @@ use native.Mathlib.Omega.{arith}
 use lib.Dec.{lit<}
 use lib.ListN.{length, take, drop, length-take, length-drop}
 use lib.Seq.{getD-take, getD-drop}
-use Rattle.om3.specs.Record.{Bytes, bytesOf, numberFrom}
+use Rattle.om3.specs.Bytes.{Bytes, bytesOf, numberFrom}
 
 pub bytes-length : (w x : ℕ) → length (bytesOf w x) ≡ w
 unfolding bytesOf

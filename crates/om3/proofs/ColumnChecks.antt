@@ -2,7 +2,7 @@
 -- table is long enough. Assumes nothing.
 use mathlib.Core.Path.{_≡_, ap, _∙_}
 use mathlib.Core.Bool.{false, not, _&&_, _||_}
-use mathlib.Core.List.{List, [], _∷_, _++_}
+use mathlib.Core.List.{List, _∷_}
 use Prim.Native.Nat.{ℕ, _*_, _/_, _≤_, _<_}
 use native.Mathlib.Omega.{arith}
 use lib.Dec.{leb, ltb, eqb}
@@ -13,7 +13,7 @@ use Rattle.words.specs.Constants.{mostColumns, dayHours}
 use Rattle.om3.specs.Series.{Series, levels, P}
 use Rattle.om3.specs.Table.{Table, coefficient, codeOfPlace, HasTable}
 use Rattle.om3.specs.Checks.{Check, passes, inOrder}
-use Rattle.om3.specs.Refusals.{tableShort, columnChecks, dayChecks}
+use Rattle.om3.specs.Refusals.{checkHours, checkRoom, tableShort, checkWindow, checkColumn, checkDay}
 use Rattle.om3.specs.Drawn.{Drawn}
 use Rattle.om3.proofs.Lists.{map-up-length, take-room}
 use Rattle.om3.proofs.Taken.{good-hours}
@@ -33,17 +33,18 @@ column-passes : (w k : ℕ) → 1 ≤ w → w ≤ mostColumns → k < w → (eqb
 column-passes w k p q r = rw (ne-eqb w 0 (λ z. absurd (omega (arith, z))), le-ltb mostColumns w q, lt-leb w k r)
 
 module _ (n : ℕ) (s : List ℤ) (t : Table) (series : Series n s) (has : HasTable n s t) where
-  -- Checks 1, 3, 5 and 6 pass, so the others decide.
-  pub columns-pass : (a b w k : ℕ) → Drawn n a b w k → (seven : List Check) (four : Check)
-      → inOrder (seven ++ four ∷ []) ≡ passes
-      → columnChecks n t a b w k seven four ≡ passes
+  -- Checks 1, 3, 5 and 6 of a column pass, so the others decide.
+  pub columns-pass : (a b w k : ℕ) → Drawn n a b w k → (rest : List Check) → inOrder rest ≡ passes
+      → inOrder (checkHours n ∷ checkRoom (tableShort n t) ∷ checkWindow n a b ∷ checkColumn w k ∷ rest) ≡ passes
   unfolding inOrder
-  columns-pass a b w k c seven four e =
+  columns-pass a b w k c rest e =
       let p = window-passes n a b (c .ordered) (c .ends) in
       let q = column-passes w k (c .some) (c .most) (c .below) in
       rw (good-hours n (series .some) (series .most), has-room n s t has, p, q) e
 
-  pub day-passes : (d : ℕ) → dayHours * d < n → (four : Check) → four ≡ passes → dayChecks n t d four ≡ passes
+  -- So do checks 1, 3 and 5 of a day.
+  pub day-passes : (d : ℕ) → dayHours * d < n → (rest : List Check) → inOrder rest ≡ passes
+      → inOrder (checkHours n ∷ checkRoom (tableShort n t) ∷ checkDay n d ∷ rest) ≡ passes
   unfolding inOrder
-  day-passes d h four e =
-      rw (good-hours n (series .some) (series .most), has-room n s t has, lt-leb n (dayHours * d) h, e)
+  day-passes d h rest e =
+      rw (good-hours n (series .some) (series .most), has-room n s t has, lt-leb n (dayHours * d) h) e

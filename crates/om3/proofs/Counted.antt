@@ -1,7 +1,7 @@
--- The count at depth 0 is 1, and at any other depth d at most 4·d − 1: at each level only the node that holds the
--- column's first hour and the one that holds its last can be opened, and node 1 is both. Assumes nothing.
+-- The count at depth 0 is at most 1, and at any other depth d at most 4·d − 1: at each level only the node that holds
+-- the column's first hour and the one that holds its last can be opened, and node 1 is both. Assumes nothing.
 use mathlib.Core.Path.{_≡_, refl, sym, ap, _∙_}
-use mathlib.Core.Bool.{Bool, true, false}
+use mathlib.Core.Bool.{Bool, true, false, cond}
 use mathlib.Core.Logic.{⊎-elim}
 use Prim.Native.Nat.{ℕ, zero, suc, _+_, _-_, _*_, _≤_, _<_}
 use native.Mathlib.Omega.{arith}
@@ -12,11 +12,21 @@ use Rattle.om3.specs.Lists.{keep}
 use Rattle.om3.specs.Nodes.{Node, root, left, right, width, start}
 use Rattle.om3.specs.Table.{Table}
 use Rattle.om3.specs.Sound.{nodesBelow}
-use Rattle.om3.specs.Stopped.{opened, countAt}
+use Rattle.om3.specs.Columns.{noHour}
+use Rattle.om3.specs.Stopped.{opened, openedNodes, countAt}
 use Rattle.om3.proofs.Tests.{below-or-not}
 use Rattle.om3.proofs.Intervals.{shares-overlap, within-inside}
 use Rattle.om3.proofs.Opened.{opened-opens, unopened-if, node-cut}
 use Rattle.om3.proofs.BelowOpened.{opened-kept, unopened-kept}
+
+-- Without an hour the count is 0, and so less.
+count-at : (l : ℕ) (t : Table) (x : Column) (d : ℕ) → countAt l t x d ≤ 1 + 2 * length (openedNodes l t x d)
+unfolding countAt
+count-at l t x d = by (noHour x)
+  where
+    by : (b : Bool) → cond b 0 (1 + 2 * length (openedNodes l t x d)) ≤ 1 + 2 * length (openedNodes l t x d)
+    by true = omega arith
+    by false = omega arith
 
 module _ (l : ℕ) (t : Table) (x : Column) (d : ℕ) where
   -- A node before the column, after it or wholly inside it is not opened, nor is one of level d or more.
@@ -104,11 +114,10 @@ module _ (l : ℕ) (t : Table) (x : Column) (d : ℕ) where
 
     -- The count at a depth from 1 to l. [columns 9]
     pub count-most : 1 ≤ d → countAt l t x d ≤ 4 * d - 1
-    unfolding countAt
-    count-most some = omega (arith, any-most (suc l) root (omega arith))
+    count-most some = omega (arith, count-at l t x d, any-most (suc l) root (omega arith))
 
 -- At depth 0 node 1 alone is visited.
-pub count-at-0 : (l : ℕ) (t : Table) (x : Column) → countAt l t x 0 ≡ 1
-unfolding countAt
+pub count-at-0 : (l : ℕ) (t : Table) (x : Column) → countAt l t x 0 ≤ 1
 count-at-0 l t x =
-    omega (arith, none-opened l t x 0 (suc l) root (omega arith) (deep-unopened l t x 0 root (omega arith)))
+    let none = none-opened l t x 0 (suc l) root (omega arith) (deep-unopened l t x 0 root (omega arith)) in
+    omega (arith, count-at l t x 0, none)

@@ -1,24 +1,24 @@
 -- Where what is reached at each node is the range of its hours, the finished answer of a column is what a look through
 -- its hours gives; and its count is at most 6·l − 1 where that of depth l is at most 4·l − 1, since each walk adds at
 -- most l. Assumes nothing.
-use mathlib.Core.Path.{_≡_, refl, sym, _∙_}
+use mathlib.Core.Path.{_≡_, refl, sym, ap, _∙_}
 use mathlib.Core.List.{List, [], _∷_, map}
 use Prim.Native.Nat.{ℕ, _+_, _-_, _*_, _^_, _≤_, _<_}
 use native.Mathlib.Omega.{arith}
 use lib.IntN.{ℤ}
-use Rattle.words.specs.declared.Range.{Range}
-use Rattle.words.specs.declared.Range.the-variants.{Empty, Held}
+use Rattle.words.specs.Said.{lowOf, highOf}
 use Rattle.words.specs.declared.Answer.{Answer}
 use Rattle.words.specs.declared.Answer.the-variants.{NoReading, Found}
 use Rattle.words.specs.declared.Column.{Column}
+use Rattle.om3.specs.Lists.{lastOf, sum}
 use Rattle.om3.specs.Nodes.{Node, InTree}
 use Rattle.om3.specs.Ranges.{rangeOf}
 use Rattle.om3.specs.Table.{Table}
 use Rattle.om3.specs.Down.{reached}
 use Rattle.om3.specs.Columns.{columnHours}
-use Rattle.om3.specs.Stopped.{countAt, rangeOver, innerNodes, inner}
-use Rattle.om3.specs.Finished.{levelsOf, endOf, walkEnd, lastOr, sum, towardsFirst, towardsLast, firstWalk}
-use Rattle.om3.specs.Finished.{lastWalk, walks, readingAt, answerOver, answer, count}
+use Rattle.om3.specs.Stopped.{countAt, rangeOver}
+use Rattle.om3.specs.Finished.{levelsOf, endOf, walkEnd, towardsFirst, towardsLast, firstWalk, lastWalk}
+use Rattle.om3.specs.Finished.{readingAt, insideNodes, walksFrom, answerFrom, answer, count}
 use Rattle.om3.specs.Looked.{lookThrough}
 use Rattle.om3.proofs.Listed.{All}
 use Rattle.om3.proofs.Answers.{joined-right}
@@ -27,14 +27,16 @@ use Rattle.om3.proofs.NodeAnswers.{nodeAnswer, Begins, Ends, begins-joi
 use Rattle.om3.proofs.NodeAnswers.{reached-answer}
 use Rattle.om3.proofs.WalksEnd.{walk-first, walk-last}
 use Rattle.om3.proofs.InnerAnswers.{inner-looks}
-use Rattle.om3.proofs.KeptNodes.{NonEmpty, inner-non-empty}
+use Rattle.om3.proofs.KeptNodes.{NonEmpty, inside-inner, inside-non-empty}
 
 -- An answer is told by its first reading, its last reading and its range.
-answer-told : (l : ℕ) (t : Table) (x : Column) (a : Answer) → Begins a (readingAt l t (endOf l (firstWalk l t x)))
-    → Ends a (readingAt l t (endOf l (lastWalk l t x))) → answerOver l t x (rangeOfAnswer a) ≡ a
-answer-told l t x NoReading p q = refl
-answer-told l t x (Found f) p q =
-    λ i. Found (record { first = sym p i; last = sym q i; low = f .low; high = f .high })
+answer-told : (l : ℕ) (t : Table) (v : Node) (vs : List Node) (a : Answer)
+    → Begins a (readingAt l t (endOf l (firstWalk l t v)))
+    → Ends a (readingAt l t (endOf l (lastWalk l t (lastOf v vs))))
+    → rangeOver l t (v ∷ vs) ≡ rangeOfAnswer a → answerFrom l t (v ∷ vs) ≡ a
+answer-told l t v vs NoReading p q e = absurd p
+answer-told l t v vs (Found f) p q e =
+    λ i. Found (record { first = sym p i; last = sym q i; low = ap lowOf e i; high = ap highOf e i })
 
 module _ (l n : ℕ) (s : List ℤ) (t : Table)
     (ranges : (v : Node) → InTree l v → reached l t v ≡ rangeOf l n s v) where
@@ -60,32 +62,29 @@ module _ (l n : ℕ) (s : List ℤ) (t : Table)
       (walk-first l n s t ranges (l - v .level) v (omega arith) (r .inTree) (r .reading))
 
   last-over : (v : Node) (vs : List Node) → All (NonEmpty l t) (v ∷ vs)
-      → Ends (J (v ∷ vs)) (readingAt l t (walkEnd (towardsLast l t) (l - lastOr v vs .level) (lastOr v vs)))
-  unfolding joinedOver lastOr
+      → Ends (J (v ∷ vs)) (readingAt l t (walkEnd (towardsLast l t) (l - lastOf v vs .level) (lastOf v vs)))
+  unfolding joinedOver lastOf
   last-over v [] a =
       let d = a .0 .inTree .deep in
       rw (joined-right (A v))
       (walk-last l n s t ranges (l - v .level) v (omega arith) (a .0 .inTree) (a .0 .reading))
   last-over v (u ∷ us) a = ends-joined (A v) (J (u ∷ us)) _ (last-over u us (a .1))
 
-  module _ (x : Column) where
-    answer-joined : (vs : List Node) → innerNodes l t x l ≡ vs → All (NonEmpty l t) vs
-        → answerOver l t x (rangeOver l t vs) ≡ J vs
-    unfolding lastOr
-    answer-joined [] e a = unfold rangeOver joinedOver in refl
-    answer-joined (v ∷ vs) e a =
-        rw (range-over (v ∷ vs) a)
-        (answer-told l t x (J (v ∷ vs)) (rw e (first-over v vs (a .0))) (rw e (last-over v vs a)))
+  answer-joined : (vs : List Node) → All (NonEmpty l t) vs → answerFrom l t vs ≡ J vs
+  answer-joined [] a = unfold joinedOver in refl
+  answer-joined (v ∷ vs) a =
+      answer-told l t v vs (J (v ∷ vs)) (first-over v vs (a .0)) (last-over v vs a) (range-over (v ∷ vs) a)
 
-    pub finished-looks : x .from .0 < x .upto .0 → x .upto .0 ≤ 2 ^ l → answer l t x ≡ lookThrough n s (columnHours x)
-    finished-looks some most =
-        answer-joined (innerNodes l t x l) refl (inner-non-empty l t x l)
-        ∙ inner-looks l n s t ranges x (omega arith) most
+  pub finished-looks : (x : Column) → x .from .0 ≤ x .upto .0 → x .upto .0 ≤ 2 ^ l
+      → answer l t x ≡ lookThrough n s (columnHours x)
+  finished-looks x some most =
+      answer-joined (insideNodes l t x) (inside-non-empty l t x)
+      ∙ rw (inside-inner l t x) (inner-looks l n s t ranges x some most)
 
 pub finished-count : (l : ℕ) (t : Table) (x : Column) → 1 ≤ l → countAt l t x l ≤ 4 * l - 1
     → count l t x ≤ 6 * l - 1
-finished-count l t x o h = by (inner l t x l)
+finished-count l t x o h = by (insideNodes l t x)
   where
-    by : (r : Range) → countAt l t x l + sum (map (levelsOf l) (walks l t x r)) ≤ 6 * l - 1
-    by Empty = omega arith
-    by (Held low high) = omega arith
+    by : (vs : List Node) → countAt l t x l + sum (map (levelsOf l) (walksFrom l t vs)) ≤ 6 * l - 1
+    by [] = omega arith
+    by (v ∷ vs) = omega arith

@@ -24,7 +24,7 @@ use Rattle.om3.specs.Looked.{lookThrough}
 use Rattle.om3.proofs.BelowOpened.{inner-kept, inner-end}
 use Rattle.om3.proofs.EachVisited.{opened-or-inside, AtEnds, GoingOn, root-visited}
 use Rattle.om3.proofs.Answers.{joined-right}
-use Rattle.om3.proofs.LookedThrough.{look-through-append}
+use Rattle.om3.proofs.LookedThrough.{look-through-none, look-through-append}
 use Rattle.om3.proofs.NodeAnswers.{nodeAnswer, no-answer, joinedOver, joined-over-append}
 use Rattle.om3.proofs.KeptHours.{no-reading-kept, hoursShared, inside-kept, unshared-kept, halves-kept}
 use Rattle.om3.proofs.KeptHours.{root-kept}
@@ -47,8 +47,7 @@ module _ (l n : ℕ) (s : List ℤ) (t : Table) (ranges : (v : Node) → InTree 
     empty-in e = no-reading-kept n s (inColumn x) _ (no-answer l n s t ranges v i e)
 
     unshared-in : shares l x v ≡ false → answerIn v ≡ NoReading
-    unfolding lookThrough
-    unshared-in e = rw (unshared-kept l x v e)
+    unshared-in e = rw (unshared-kept l x v e) (look-through-none n s)
 
     -- A visited node that is not opened.
     unopened-in : J (cond (hasReading l t v && shares l x v && inside l x v) (v ∷ []) []) ≡ answerIn v

@@ -105,3 +105,10 @@ module _ (l : ℕ) (x : Column) (v : Node) where
   pub within-inside : Within x (start l v) (width l v) → inside l x v ≡ true
   unfolding inside hours
   within-inside p = within-every x (start l v) (width l v) p
+
+  -- A node wholly inside shares its hours.
+  pub inside-shares : inside l x v ≡ true → shares l x v ≡ true
+  inside-shares e =
+      let w = inside-within e in
+      let s = width-some in
+      overlap-shares (record { reaches = omega arith; begins = omega arith; some = omega arith })

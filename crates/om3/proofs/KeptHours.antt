@@ -1,6 +1,6 @@
 -- Of the hours of a node, those that lie in a column are all of them, none of them, or as many as its halves have; of
 -- node 1 they are the hours of the column. Assumes nothing.
-use mathlib.Core.Path.{_≡_, refl, ap, _∙_}
+use mathlib.Core.Path.{_≡_, refl, sym, ap, _∙_}
 use mathlib.Core.Bool.{Bool, true, false, cond}
 use mathlib.Core.List.{List, [], _∷_, _++_, append-nil}
 use Prim.Native.Nat.{ℕ, _-_, _^_, _≤_, _<_}
@@ -16,12 +16,13 @@ use Rattle.om3.specs.Nodes.{Node, root, left, right, hours}
 use Rattle.om3.specs.Columns.{inColumn, columnHours}
 use Rattle.om3.specs.Stopped.{shares, inside}
 use Rattle.om3.specs.Joined.{joined}
-use Rattle.om3.specs.Looked.{hourAnswer, lookThrough}
+use Rattle.om3.specs.Looked.{lookThrough}
 use Rattle.om3.proofs.Tests.{fails-up}
 use Rattle.om3.proofs.Lists.{keep-append, every-kept, nothing-kept}
 use Rattle.om3.proofs.Nodes.{start-root, width-root, hours-halves}
 use Rattle.om3.proofs.Intervals.{Overlap, Within, any-overlap, within-every}
 use Rattle.om3.proofs.Windows.{hours-cut}
+use Rattle.om3.proofs.LookedThrough.{hourAnswer, look-through-more}
 
 -- Of hours without a reading none has one.
 none-joined : (a b : Answer) → joined a b ≡ NoReading → (a ≡ NoReading) × (b ≡ NoReading)
@@ -29,17 +30,17 @@ none-joined NoReading b e = (refl, e)
 none-joined (Found f) NoReading e = (e, refl)
 none-joined (Found f) (Found g) e = (cc, cc)
 
-pub no-reading-kept : (n : ℕ) (s : List ℤ) (p : Timestamp → Bool) (ts : List Timestamp)
-    → lookThrough n s ts ≡ NoReading → lookThrough n s (keep p ts) ≡ NoReading
-unfolding lookThrough keep
-no-reading-kept n s p [] e = refl
-no-reading-kept n s p (t ∷ ts) e =
-    let two = none-joined (hourAnswer n s t) (lookThrough n s ts) e in
-    by (p t) (two .0) (no-reading-kept n s p ts (two .1))
+pub no-reading-kept : (n : ℕ) (s : List ℤ) (p : Timestamp → Bool) (hs : List Timestamp)
+    → lookThrough n s hs ≡ NoReading → lookThrough n s (keep p hs) ≡ NoReading
+unfolding keep
+no-reading-kept n s p [] e = e
+no-reading-kept n s p (h ∷ hs) e =
+    let two = none-joined (hourAnswer n s h) (lookThrough n s hs) (sym (look-through-more n s h hs) ∙ e) in
+    by (p h) (two .0) (no-reading-kept n s p hs (two .1))
   where
-    by : (b : Bool) → hourAnswer n s t ≡ NoReading → lookThrough n s (keep p ts) ≡ NoReading
-        → lookThrough n s (cond b (t ∷ keep p ts) (keep p ts)) ≡ NoReading
-    by true q r = rw (q, r)
+    by : (b : Bool) → hourAnswer n s h ≡ NoReading → lookThrough n s (keep p hs) ≡ NoReading
+        → lookThrough n s (cond b (h ∷ keep p hs) (keep p hs)) ≡ NoReading
+    by true q r = look-through-more n s h (keep p hs) ∙ rw (q, r)
     by false q r = r
 
 module _ (l : ℕ) (x : Column) (v : Node) where
@@ -83,7 +84,7 @@ module _ (x : Column) where
         let e : 2 ^ l ≡ 2 ^ l - 0 = omega arith in
         rw (start-root l, width-root l) (ap (hoursFrom 0) e)
         ∙ hours-cut 0 (x .from .0) (2 ^ l) (omega arith) (omega arith)
-        ∙ ap (λ (ts : List Timestamp). before ++ ts) (hours-cut (x .from .0) (x .upto .0) (2 ^ l) some most)
+        ∙ ap (λ (hs : List Timestamp). before ++ hs) (hours-cut (x .from .0) (x .upto .0) (2 ^ l) some most)
 
     pub root-kept : hoursShared l x root ≡ columnHours x
     root-kept =

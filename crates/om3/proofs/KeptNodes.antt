@@ -1,11 +1,13 @@
 -- The nodes listed below a node of the tree lie in the tree, and those kept of a list pass the test they are kept by:
--- opened nodes are of a level below the depth, inner nodes have a reading. Assumes nothing.
-use mathlib.Core.Path.{_≡_, refl}
+-- opened nodes are of a level below the depth, inner nodes have a reading. The non-empty inside visited nodes are those
+-- of the inner range at depth l, since an inside node is not opened and shares its hours. Assumes nothing.
+use mathlib.Core.Path.{_≡_, refl, sym, ap, fun-ext, _∙_}
 use mathlib.Core.Bool.{Bool, true, false, cond, not, _&&_}
 use mathlib.Core.List.{List, [], _∷_}
 use Prim.Native.Nat.{ℕ, zero, suc, _+_, _*_, _^_, _≤_, _<_}
 use native.Mathlib.Nat.{two-pow-succ}
 use native.Mathlib.Omega.{arith}
+use Rattle.signed.proofs.Parts.{clash}
 use Rattle.words.specs.declared.Column.{Column}
 use Rattle.om3.specs.Lists.{keep}
 use Rattle.om3.specs.Nodes.{Node, InTree, root, left, right}
@@ -13,9 +15,11 @@ use Rattle.om3.specs.Table.{Table}
 use Rattle.om3.specs.Sound.{nodesBelow, allNodes}
 use Rattle.om3.specs.Stopped.{hasReading, shares, inside, opened, visited, openedNodes, isOuter, isInner}
 use Rattle.om3.specs.Stopped.{innerNodes}
+use Rattle.om3.specs.Finished.{insideNodes}
 use Rattle.om3.proofs.Tests.{and-left, and-right}
 use Rattle.om3.proofs.Listed.{All, all-append, all-map}
-use Rattle.om3.proofs.Opened.{opened-opens}
+use Rattle.om3.proofs.Intervals.{inside-shares}
+use Rattle.om3.proofs.Opened.{opened-opens, unopened-if}
 
 -- What is kept of nodes that are all of a kind is of that kind, and passes the test.
 all-kept : (P : Node → Type 0) (p : Node → Bool) (vs : List Node) → All P vs
@@ -73,3 +77,36 @@ module _ (l : ℕ) (t : Table) (x : Column) (d : ℕ) where
       all-map (λ v. InTree l v × (isInner l t x d v ≡ true)) (NonEmpty l t)
       (λ v p. record { inTree = p .0; reading = inner-reading v (p .1) })
       (innerNodes l t x d) (all-kept (InTree l) (isInner l t x d) (allNodes l) (all-in l))
+
+-- Of an inside node, the tests for the inner range ask beside these only what holds of it.
+inside-test : (reads within visits opens shared : Bool) → (within ≡ true → (opens ≡ false) × (shared ≡ true))
+    → (reads && within && visits) ≡ (visits && not opens && reads && shared && within)
+inside-test reads true visits opens shared f = rw (f refl .0, f refl .1) (by reads visits)
+  where
+    by : (r v : Bool) → (r && true && v) ≡ (v && true && r && true && true)
+    by true true = refl
+    by true false = refl
+    by false true = refl
+    by false false = refl
+inside-test reads false visits opens shared f = by reads (visits && not opens && reads && shared)
+  where
+    by : (r m : Bool) → (r && false && visits) ≡ (m && false)
+    by true true = refl
+    by true false = refl
+    by false true = refl
+    by false false = refl
+
+pub inside-inner : (l : ℕ) (t : Table) (x : Column) → insideNodes l t x ≡ innerNodes l t x l
+unfolding insideNodes innerNodes
+inside-inner l t x = ap (λ (p : Node → Bool). keep p (allNodes l)) (fun-ext (λ v. same v))
+  where
+    unopened : (v : Node) → inside l x v ≡ true → opened l t x l v ≡ false
+    unopened v e = unopened-if l t x l v (λ o. clash (sym (o .partly) ∙ e))
+
+    same : (v : Node) → (hasReading l t v && inside l x v && visited l t x l v) ≡ isInner l t x l v
+    same v =
+        inside-test (hasReading l t v) (inside l x v) (visited l t x l v) (opened l t x l v) (shares l x v)
+        (λ e. (unopened v e, inside-shares l x v e))
+
+pub inside-non-empty : (l : ℕ) (t : Table) (x : Column) → All (NonEmpty l t) (insideNodes l t x)
+inside-non-empty l t x = rw (inside-inner l t x) (inner-non-empty l t x l)

@@ -1,14 +1,12 @@
 -- A table is not too short exactly if the places that it needs are lent. Assumes nothing.
 use mathlib.Core.Path.{_≡_}
 use mathlib.Core.Bool.{false}
-use mathlib.Core.List.{List}
 use Prim.Native.Nat.{ℕ, _/_, _≤_}
-use lib.IntN.{ℤ}
 use lib.ListN.{length}
 use borrow.Author.Tests.{le-ltb, ltb-false}
-use Rattle.om3.specs.Series.{badHours, P}
-use Rattle.om3.specs.Table.{Table, lent}
-use Rattle.om3.specs.Refusals.{short, tableShort, TableLent}
+use Rattle.om3.specs.Series.{P}
+use Rattle.om3.specs.Table.{Table}
+use Rattle.om3.specs.Refusals.{short, tableShort}
 use Rattle.om3.proofs.Tests.{neither}
 
 module _ (n : ℕ) (t : Table) where
@@ -24,15 +22,3 @@ module _ (n : ℕ) (t : Table) where
 
     pub codes-there : P n / 2 ≤ length (t .codes)
     codes-there = ltb-false _ _ (parts .1)
-
-module _ (n : ℕ) (cs : List ℤ) (ks : List ℕ) where
-  pub table-lent : badHours n ≡ false → tableShort n (lent cs ks) ≡ false → TableLent n cs ks
-  table-lent good room =
-      record {
-        good = good;
-        coefficients = coefficients-there n (lent cs ks) room;
-        codes = codes-there n (lent cs ks) room;
-      }
-
-  pub table-room : TableLent n cs ks → tableShort n (lent cs ks) ≡ false
-  table-room t = not-short n (lent cs ks) (t .coefficients) (t .codes)

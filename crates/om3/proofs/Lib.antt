@@ -4,8 +4,6 @@ pub mod Tests
 pub mod Lists
 pub mod Levels
 pub mod Nodes
-pub mod Located
-pub mod Rooms
 pub mod Ranges
 pub mod Down
 pub mod Places
@@ -24,7 +22,6 @@ pub mod Agreeing
 pub mod Lent
 pub mod Demand2
 pub mod Making
-pub mod TableChecks
 pub mod Taken
 pub mod Bytes
 pub mod ThreeBytes
@@ -51,6 +48,7 @@ pub mod WalksEnd
 pub mod KeptHours
 pub mod InnerAnswers
 pub mod KeptNodes
+pub mod WithoutHours
 pub mod FinishedAnswers
 pub mod NeverRefused
 pub mod ColumnChecks

@@ -1,21 +1,24 @@
--- What a look through hours gives: it is joined from the looks through its parts, and its low and high are those of the
--- range of its hours. Assumes nothing.
-use mathlib.Core.Path.{_≡_, refl, sym, ap, _∙_}
-use mathlib.Core.Bool.{Bool, true, false, cond}
-use mathlib.Core.List.{List, [], _∷_, _++_, map}
+-- What a look through hours gives is the answers of the single hours, joined one after the other; so it is joined from
+-- the looks through its parts, and its low and high are those of the range of its hours. Assumes nothing.
+use mathlib.Core.Path.{_≡_, refl, sym, ap, ap₂, _∙_}
+use mathlib.Core.Bool.{Bool, true, false, cond, not}
+use mathlib.Core.List.{List, [], _∷_, _++_, map, foldr}
 use Prim.Native.Nat.{ℕ, _-_, _≤_}
 use lib.IntN.{ℤ}
 use Rattle.words.specs.declared.Timestamp.{Timestamp}
 use Rattle.words.specs.declared.Range.{Range}
 use Rattle.words.specs.declared.Range.the-variants.{Empty, Held}
+use Rattle.words.specs.declared.Reading.{Reading}
 use Rattle.words.specs.declared.Summary.{Summary}
 use Rattle.words.specs.declared.Answer.{Answer}
 use Rattle.words.specs.declared.Answer.the-variants.{NoReading, Found}
+use Rattle.om3.specs.Lists.{keep, lastOf}
 use Rattle.om3.specs.Series.{isGap, hourOf, hoursFrom}
 use Rattle.om3.specs.Ranges.{hourRange, both, look}
 use Rattle.om3.specs.Joined.{joined}
-use Rattle.om3.specs.Looked.{hourAnswer, lookThrough}
+use Rattle.om3.specs.Looked.{readingOf, readingsIn, least, greatest, answerOf, lookThrough}
 use Rattle.om3.proofs.Ranges.{min-assoc, max-assoc}
+use Rattle.om3.proofs.Answers.{joined-right}
 use Rattle.om3.proofs.Windows.{hours-cut}
 
 pub joined-assoc : (a b c : Answer) → joined (joined a b) c ≡ joined a (joined b c)
@@ -42,28 +45,66 @@ range-joined NoReading b = refl
 range-joined (Found a) NoReading = refl
 range-joined (Found a) (Found b) = refl
 
-module _ (n : ℕ) (s : List ℤ) where
-  pub look-through-append : (ts us : List Timestamp)
-      → lookThrough n s (ts ++ us) ≡ joined (lookThrough n s ts) (lookThrough n s us)
-  unfolding lookThrough
-  look-through-append [] us = refl
-  look-through-append (t ∷ ts) us =
-      ap (joined (hourAnswer n s t)) (look-through-append ts us)
-      ∙ sym (joined-assoc (hourAnswer n s t) (lookThrough n s ts) (lookThrough n s us))
+-- The answer of one reading: it is the first, the last, the lowest and the highest.
+abbrev answerOne : Reading → Answer
+answerOne r = Found (record { first = r; last = r; low = r .grams; high = r .grams })
 
-  range-hour : (t : Timestamp) → rangeOfAnswer (hourAnswer n s t) ≡ hourRange (hourOf n s t)
-  range-hour t = by (isGap (hourOf n s t)) _
+-- One reading before others: it is the first of all.
+one-more : (r : Reading) (rs : List Reading) → answerOf (r ∷ rs) ≡ joined (answerOne r) (answerOf rs)
+unfolding lastOf least greatest
+one-more r [] = refl
+one-more r (q ∷ qs) = refl
+
+module _ (n : ℕ) (s : List ℤ) where
+  -- The answer of one hour; at a gap there is none.
+  abbrev pub hourAnswer : Timestamp → Answer
+  hourAnswer h = cond (isGap (hourOf n s h)) NoReading (answerOne (readingOf n s h))
+
+  pub look-through-none : lookThrough n s [] ≡ NoReading
+  unfolding lookThrough readingsIn keep
+  look-through-none = refl
+
+  pub look-through-more : (h : Timestamp) (hs : List Timestamp)
+      → lookThrough n s (h ∷ hs) ≡ joined (hourAnswer h) (lookThrough n s hs)
+  unfolding lookThrough readingsIn keep
+  look-through-more h hs = by (isGap (hourOf n s h)) (keep (λ g. not (isGap (hourOf n s g))) hs)
+    where
+      by : (b : Bool) (kept : List Timestamp) → answerOf (map (readingOf n s) (cond (not b) (h ∷ kept) kept))
+          ≡ joined (cond b NoReading (answerOne (readingOf n s h))) (answerOf (map (readingOf n s) kept))
+      by true kept = refl
+      by false kept = one-more (readingOf n s h) (map (readingOf n s) kept)
+
+  pub look-through-one : (h : Timestamp) → lookThrough n s (h ∷ []) ≡ hourAnswer h
+  look-through-one h = look-through-more h [] ∙ rw look-through-none (joined-right (hourAnswer h))
+
+  pub look-through-joined : (hs : List Timestamp)
+      → lookThrough n s hs ≡ foldr {B = Answer} joined NoReading (map (λ h. lookThrough n s (h ∷ [])) hs)
+  look-through-joined [] = look-through-none
+  look-through-joined (h ∷ hs) =
+      look-through-more h hs ∙ ap₂ joined (sym (look-through-one h)) (look-through-joined hs)
+
+  pub look-through-append : (hs gs : List Timestamp)
+      → lookThrough n s (hs ++ gs) ≡ joined (lookThrough n s hs) (lookThrough n s gs)
+  look-through-append [] gs = rw look-through-none
+  look-through-append (h ∷ hs) gs =
+      look-through-more h (hs ++ gs) ∙ ap (joined (hourAnswer h)) (look-through-append hs gs)
+      ∙ sym (joined-assoc (hourAnswer h) (lookThrough n s hs) (lookThrough n s gs))
+      ∙ ap (λ (a : Answer). joined a (lookThrough n s gs)) (sym (look-through-more h hs))
+
+  range-hour : (h : Timestamp) → rangeOfAnswer (hourAnswer h) ≡ hourRange (hourOf n s h)
+  range-hour h = by (isGap (hourOf n s h)) _
     where
       by : (b : Bool) (f : Summary)
           → rangeOfAnswer (cond b NoReading (Found f)) ≡ cond b Empty (Held (f .low) (f .high))
       by true f = refl
       by false f = refl
 
-  pub look-through-range : (ts : List Timestamp) → rangeOfAnswer (lookThrough n s ts) ≡ look (map (hourOf n s) ts)
-  unfolding lookThrough look
-  look-through-range [] = refl
-  look-through-range (t ∷ ts) =
-      range-joined (hourAnswer n s t) (lookThrough n s ts) ∙ rw (range-hour t, look-through-range ts)
+  pub look-through-range : (hs : List Timestamp) → rangeOfAnswer (lookThrough n s hs) ≡ look (map (hourOf n s) hs)
+  unfolding look
+  look-through-range [] = ap rangeOfAnswer look-through-none
+  look-through-range (h ∷ hs) =
+      ap rangeOfAnswer (look-through-more h hs)
+      ∙ range-joined (hourAnswer h) (lookThrough n s hs) ∙ rw (range-hour h, look-through-range hs)
 
   -- The hours from f up to, not including, h, cut at hour g: the answers of the two parts join.
   pub look-through-cut : (f g h : ℕ) → f ≤ g → g ≤ h

@@ -19,10 +19,10 @@ use Rattle.om3.specs.Table.{Table}
 use Rattle.om3.specs.Down.{reached}
 use Rattle.om3.specs.Stopped.{hasReading}
 use Rattle.om3.specs.Joined.{joined}
-use Rattle.om3.specs.Looked.{readingOf, hourAnswer, lookThrough}
+use Rattle.om3.specs.Looked.{readingOf, lookThrough}
 use Rattle.om3.proofs.Nodes.{hours-halves, width-hour, start-hour}
-use Rattle.om3.proofs.Answers.{joined-right}
-use Rattle.om3.proofs.LookedThrough.{joined-assoc, rangeOfAnswer, look-through-append, look-through-range}
+use Rattle.om3.proofs.LookedThrough.{joined-assoc, rangeOfAnswer, hourAnswer, look-through-one}
+use Rattle.om3.proofs.LookedThrough.{look-through-append, look-through-range}
 
 -- The answer of a node's hours.
 abbrev pub nodeAnswer : ℕ → ℕ → List ℤ → Node → Answer
@@ -56,20 +56,20 @@ found-not NoReading e = refl
 found-not (Found f) e = clash (sym e)
 
 -- An hour that answers has its reading as its first and as its last.
-module _ (n : ℕ) (s : List ℤ) (t : Timestamp) where
-  pub hour-begins : found (hourAnswer n s t) ≡ true → Begins (hourAnswer n s t) (readingOf n s t)
-  hour-begins = by (isGap (hourOf n s t)) _ refl
+module _ (n : ℕ) (s : List ℤ) (h : Timestamp) where
+  pub hour-begins : found (hourAnswer n s h) ≡ true → Begins (hourAnswer n s h) (readingOf n s h)
+  hour-begins = by (isGap (hourOf n s h)) _ refl
     where
-      by : (b : Bool) (f : Summary) → f .first ≡ readingOf n s t → found (cond b NoReading (Found f)) ≡ true
-          → Begins (cond b NoReading (Found f)) (readingOf n s t)
+      by : (b : Bool) (f : Summary) → f .first ≡ readingOf n s h → found (cond b NoReading (Found f)) ≡ true
+          → Begins (cond b NoReading (Found f)) (readingOf n s h)
       by true f p e = clash e
       by false f p e = p
 
-  pub hour-ends : found (hourAnswer n s t) ≡ true → Ends (hourAnswer n s t) (readingOf n s t)
-  hour-ends = by (isGap (hourOf n s t)) _ refl
+  pub hour-ends : found (hourAnswer n s h) ≡ true → Ends (hourAnswer n s h) (readingOf n s h)
+  hour-ends = by (isGap (hourOf n s h)) _ refl
     where
-      by : (b : Bool) (f : Summary) → f .last ≡ readingOf n s t → found (cond b NoReading (Found f)) ≡ true
-          → Ends (cond b NoReading (Found f)) (readingOf n s t)
+      by : (b : Bool) (f : Summary) → f .last ≡ readingOf n s h → found (cond b NoReading (Found f)) ≡ true
+          → Ends (cond b NoReading (Found f)) (readingOf n s h)
       by true f p e = clash e
       by false f p e = p
 
@@ -81,8 +81,8 @@ module _ (l n : ℕ) (s : List ℤ) where
   answer-halves v b = rw (hours-halves l v b) (look-through-append n s (hours l (left v)) (hours l (right v)))
 
   pub answer-hour : (v : Node) → v .level ≡ l → A v ≡ hourAnswer n s (hour (v .index))
-  unfolding hours upFrom lookThrough
-  answer-hour v z = rw (width-hour l v z, start-hour l v z) (joined-right (hourAnswer n s (hour (v .index))))
+  unfolding hours upFrom
+  answer-hour v z = rw (width-hour l v z, start-hour l v z) (look-through-one n s (hour (v .index)))
 
   -- The answers of the nodes of a list, joined in its order.
   unfoldable pub joinedOver : List Node → Answer

@@ -2,7 +2,7 @@
 use mathlib.Core.Path.{refl}
 use mathlib.Core.List.{flatMap}
 use Prim.Native.Nat.{ℕ}
-use Rattle.om3.specs.Lists.{upFrom, any, every, keep, firstFrom}
+use Rattle.om3.specs.Lists.{upFrom, any, every, keep, firstFrom, lastOf}
 use Rattle.om3.specs.Series.{levels, hourOf}
 use Rattle.om3.specs.Nodes.{width, start, hours, levelOf}
 use Rattle.om3.specs.Ranges.{look, rangeOf}
@@ -12,10 +12,12 @@ use Rattle.om3.specs.Checks.{inOrder}
 use Rattle.om3.specs.Sound.{soundNode, nodesBelow, examine}
 use Rattle.om3.specs.Refusals.{checkReadings}
 use Rattle.om3.specs.Level.{levelStretch}
-use Rattle.om3.specs.Record.{bytesOf, numberFrom, signedOf, recordOf, tableIn, openedRecord, askedRecord}
+use Rattle.om3.specs.Bytes.{bytesOf, numberFrom, signedOf}
+use Rattle.om3.specs.Record.{recordOf, tableIn}
+use Rattle.om3.specs.RecordCalls.{opening, asking}
 use Rattle.om3.specs.Columns.{edges}
 use Rattle.om3.specs.Stopped.{shares, inside, opened, visited, countAt, rangeOver, outer, innerNodes, stopped}
-use Rattle.om3.specs.Finished.{walk, walkEnd, lastOr, finished}
+use Rattle.om3.specs.Finished.{walkNodes, walkEnd, insideNodes, finished}
 use Rattle.om3.specs.Days.{dayChange}
 use Rattle.om3.specs.Text.{split, windowLine, hourLine, withoutEnd}
 use Rattle.om3.specs.Printed.{digitsOf, decimal, columnLines, checkLines, checkNumbers, printed}
@@ -24,8 +26,9 @@ use Rattle.om3.specs.Numbers.{Answered, numbers, unmarked, outside, furt
 unfoldable computing : Unit {0}
 unfolding upFrom any every keep firstFrom levels hourOf width start hours levelOf look rangeOf coefficient pairCode
     reachedAt inOrder soundNode nodesBelow examine checkReadings edges shares inside opened visited countAt
-    rangeOver outer innerNodes stopped walk walkEnd lastOr finished dayChange levelStretch bytesOf numberFrom
-    signedOf recordOf tableIn openedRecord askedRecord split windowLine hourLine withoutEnd digitsOf decimal columnLines
+    rangeOver outer innerNodes stopped walkNodes walkEnd lastOf insideNodes finished dayChange levelStretch bytesOf
+    numberFrom
+    signedOf recordOf tableIn opening asking split windowLine hourLine withoutEnd digitsOf decimal columnLines
     checkLines checkNumbers printed flatMap
 computing = tt
 

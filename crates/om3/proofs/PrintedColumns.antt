@@ -15,12 +15,12 @@ use Rattle.words.specs.declared.Finished.{Finished}
 use Rattle.words.specs.declared.HourLine.{HourLine}
 use Rattle.om3.specs.Series.{isReading, isGap, Series, levels, hour}
 use Rattle.om3.specs.Table.{tableOf}
-use Rattle.om3.specs.Checks.{passes}
+use Rattle.om3.specs.Checks.{passes, inOrder}
 use Rattle.om3.specs.Refusals.{checkHours, checkWindow, checkColumn}
 use Rattle.om3.specs.Columns.{column, columnHours}
-use Rattle.om3.specs.Finished.{finished}
+use Rattle.om3.specs.Finished.{count, finished}
 use Rattle.om3.specs.Looked.{lookThrough}
-use Rattle.om3.specs.Drawn.{Drawn, finishedCount}
+use Rattle.om3.specs.Drawn.{Drawn}
 use Rattle.om3.specs.Printed.{gramsOf, checkLines, checkNumber, checkNumbers, printingChecks}
 use Rattle.om3.proofs.Tests.{and-left, and-right, neither}
 use Rattle.om3.proofs.Examined.{then-first, then-second, refuse-not, order-parts}
@@ -29,39 +29,40 @@ use Rattle.om3.proofs.Demand2.{made-has}
 use Rattle.om3.proofs.Demand3.{finished-drawn}
 
 -- An hour whose line passes check 2 holds a reading or a gap.
-number-holds : (t : ℕ) (h : HourLine) → checkNumber t h ≡ passes → (isReading (gramsOf h) || isGap (gramsOf h)) ≡ true
-number-holds t HourLine.Gap e = refl
-number-holds t HourLine.Bad e = refl
-number-holds t (HourLine.Grams z) e =
-    rw (not-false (isReading z) (refuse-not (not (isReading z)) (BadReading (hour t)) e))
+number-holds : (h : ℕ) (line : HourLine) → checkNumber h line ≡ passes
+    → (isReading (gramsOf line) || isGap (gramsOf line)) ≡ true
+number-holds h HourLine.Gap e = refl
+number-holds h HourLine.Bad e = refl
+number-holds h (HourLine.Grams z) e =
+    rw (not-false (isReading z) (refuse-not (not (isReading z)) (BadReading (hour h)) e))
 
-numbers-hold : (t : ℕ) (hs : List HourLine) → checkNumbers t hs ≡ passes → (k : ℕ) → k < length hs
-    → (let z = getD (map gramsOf hs) k gap in isReading z || isGap z) ≡ true
+numbers-hold : (h : ℕ) (lines : List HourLine) → checkNumbers h lines ≡ passes → (k : ℕ) → k < length lines
+    → (let z = getD (map gramsOf lines) k gap in isReading z || isGap z) ≡ true
 unfolding checkNumbers
-numbers-hold t [] e k h = absurd (omega arith)
-numbers-hold t (x ∷ hs) e zero h = number-holds t x (then-first (checkNumber t x) _ e)
-numbers-hold t (x ∷ hs) e (suc k) h =
-    numbers-hold (t + 1) hs (then-second (checkNumber t x) _ e) k (omega arith)
+numbers-hold h [] e k b = absurd (omega arith)
+numbers-hold h (line ∷ lines) e zero b = number-holds h line (then-first (checkNumber h line) _ e)
+numbers-hold h (line ∷ lines) e (suc k) b =
+    numbers-hold (h + 1) lines (then-second (checkNumber h line) _ e) k (omega arith)
 
-module _ (a b w : ℕ) (hs : List HourLine) (ok : printingChecks a b w hs ≡ passes) where
+module _ (a b w : ℕ) (lines : List HourLine) (ok : inOrder (printingChecks a b w lines) ≡ passes) where
   abbrev n : ℕ
-  n = length hs
+  n = length lines
 
   abbrev s : List ℤ
-  s = map gramsOf hs
+  s = map gramsOf lines
 
   -- Its checks, one after the other: 12, 1, 2, 5 and 6 pass.
   record Passed : Type 0 where
     hours : checkHours n ≡ passes
-    numbers : checkNumbers 0 hs ≡ passes
+    numbers : checkNumbers 0 lines ≡ passes
     window : checkWindow n a b ≡ passes
     columns : checkColumn w 0 ≡ passes
 
   passed : Passed
   passed =
-      let c = order-parts (checkLines 2 hs) _ ok .1 in
+      let c = order-parts (checkLines 2 lines) _ ok .1 in
       let d = order-parts (checkHours n) _ c in
-      let e = order-parts (checkNumbers 0 hs) _ (d .1) in
+      let e = order-parts (checkNumbers 0 lines) _ (d .1) in
       let f = order-parts (checkWindow n a b) _ (e .1) in
       record { hours = d .0; numbers = e .0; window = f .0; columns = order-parts (checkColumn w 0) [] (f .1) .0 }
 
@@ -71,8 +72,8 @@ module _ (a b w : ℕ) (hs : List HourLine) (ok : printingChecks a b w hs ≡ pa
       record {
         some = some .0;
         most = some .1;
-        size = length-map hs gramsOf;
-        holds = numbers-hold 0 hs (passed .numbers);
+        size = length-map lines gramsOf;
+        holds = numbers-hold 0 lines (passed .numbers);
       }
 
   text-drawn : (k : ℕ) → k < w → Drawn n a b w k
@@ -91,6 +92,6 @@ module _ (a b w : ℕ) (hs : List HourLine) (ok : printingChecks a b w hs ≡ pa
   pub columns-answered : (k : ℕ) → k < w
       → (let t = tableOf (levels n) n s in
       let x = column a b w k in
-      finished n t a b w k ≡ Finished.Answered (lookThrough n s (columnHours x)) (finishedCount n t x))
+      finished n t a b w k ≡ Finished.Answered (lookThrough n s (columnHours x)) (count (levels n) t x))
   columns-answered k h =
       finished-drawn n s (tableOf (levels n) n s) text-series (made-has n s) a b w k (text-drawn k h)

@@ -78,19 +78,19 @@ readings-hour z h = by (isGap z) h
         omega (signed, between (negℤ (pos largestReading)) (pos largestReading) z f)
 
 module _ (n : ℕ) (s : List ℤ) (holds : Holds n s) where
-  pub readings-at : (t : Timestamp) → Readings (hourRange (hourOf n s t))
+  pub readings-at : (h : Timestamp) → Readings (hourRange (hourOf n s h))
   unfolding hourOf
-  readings-at t = by (ltb (t .0) n) refl
+  readings-at h = by (ltb (h .0) n) refl
     where
-      by : (b : Bool) → ltb (t .0) n ≡ b → Readings (hourRange (cond b (getD s (t .0) gap) gap))
-      by true e = readings-hour (getD s (t .0) gap) (holds (t .0) (ltb-true (t .0) n e))
+      by : (b : Bool) → ltb (h .0) n ≡ b → Readings (hourRange (cond b (getD s (h .0) gap) gap))
+      by true e = readings-hour (getD s (h .0) gap) (holds (h .0) (ltb-true (h .0) n e))
       by false e = tt
 
-  pub readings-look : (ts : List Timestamp) → Readings (look (map (hourOf n s) ts))
+  pub readings-look : (hs : List Timestamp) → Readings (look (map (hourOf n s) hs))
   unfolding look
   readings-look [] = tt
-  readings-look (t ∷ ts) =
-      readings-both (hourRange (hourOf n s t)) (look (map (hourOf n s) ts)) (readings-at t) (readings-look ts)
+  readings-look (h ∷ hs) =
+      readings-both (hourRange (hourOf n s h)) (look (map (hourOf n s) hs)) (readings-at h) (readings-look hs)
 
   pub readings-range : (l : ℕ) (v : Node) → Readings (rangeOf l n s v)
   unfolding rangeOf

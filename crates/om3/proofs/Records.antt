@@ -13,8 +13,9 @@ use Rattle.om3.specs.Lists.{upFrom}
 use Rattle.om3.specs.Series.{P}
 use Rattle.om3.specs.Table.{Table}
 use Rattle.om3.specs.Refusals.{tableShort}
-use Rattle.om3.specs.Record.{Bytes, bytesOf, InThree, threeBytes, signedFrom, recordLength, recordSize, recordOf}
-use Rattle.om3.specs.Record.{headerOf, headerSize, bytesAt, lengthIn, versionIn, hoursIn, coefficientIn, tableIn}
+use Rattle.om3.specs.Bytes.{Bytes, bytesOf, InThree, threeBytes, signedFrom, bytesAt}
+use Rattle.om3.specs.Record.{recordLength, recordSize, recordOf, headerOf, headerSize, lengthIn, versionIn}
+use Rattle.om3.specs.Record.{hoursIn, coefficientIn, tableIn}
 use Rattle.om3.proofs.Lists.{map-up-length, map-up-from-0}
 use Rattle.om3.proofs.Levels.{P-most}
 use Rattle.om3.proofs.Lent.{coefficients-there, codes-there}

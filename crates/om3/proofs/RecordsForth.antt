@@ -9,9 +9,10 @@ use lib.Seq.{length-take-le, take-add, take-all, drop-drop}
 use Rattle.words.specs.Constants.{version}
 use Rattle.om3.specs.Lists.{upFrom}
 use Rattle.om3.specs.Series.{P}
-use Rattle.om3.specs.Checks.{passes}
-use Rattle.om3.specs.Record.{Bytes, bytesOf, numberFrom, threeBytes, recordLength, recordOf, bytesAt, headerSize}
-use Rattle.om3.specs.Record.{hoursIn, coefficientIn, tableIn, openingChecks, Openable}
+use Rattle.om3.specs.Checks.{passes, inOrder}
+use Rattle.om3.specs.Bytes.{Bytes, bytesOf, numberFrom, threeBytes, bytesAt}
+use Rattle.om3.specs.Record.{recordLength, recordOf, headerSize, hoursIn, coefficientIn, tableIn}
+use Rattle.om3.specs.RecordCalls.{openingChecks, Openable}
 use Rattle.om3.proofs.Lists.{map-up-length}
 use Rattle.om3.proofs.Bytes.{bytes-take, bytes-drop, bytes-forth}
 use Rattle.om3.proofs.ThreeBytes.{three-forth}
@@ -91,10 +92,12 @@ module _ (r : List ℕ) (bytes : Bytes r) where
         (take-all (headerSize + 3 * P n + P n / 2) r (omega (arith, w .sized)))
 
 -- Bytes that are taken are the record of the table that they state.
-pub record-forth : (r : List ℕ) → Bytes r → openingChecks r ≡ passes → recordOf (hoursIn r) (tableIn r) ≡ r
+pub record-forth : (r : List ℕ) → Bytes r → inOrder (openingChecks r) ≡ passes
+    → recordOf (hoursIn r) (tableIn r) ≡ r
 record-forth r bytes h = formed-again r bytes (opens-formed r h)
 
 -- So the hours and the table decide the record.
-pub record-one : (r q : List ℕ) → Bytes r → Bytes q → openingChecks r ≡ passes → openingChecks q ≡ passes
+pub record-one : (r q : List ℕ) → Bytes r → Bytes q → inOrder (openingChecks r) ≡ passes
+    → inOrder (openingChecks q) ≡ passes
     → hoursIn r ≡ hoursIn q → tableIn r ≡ tableIn q → r ≡ q
 record-one r q a b h k e f = sym (record-forth r a h) ∙ ap₂ recordOf e f ∙ record-forth q b k

@@ -1,30 +1,34 @@
 -- Opening takes a list of numbers exactly if its fields and its length fit one another; a written record is taken.
 -- Assumes nothing.
-use mathlib.Core.Path.{_≡_, sym}
-use mathlib.Core.Bool.{false, not}
-use mathlib.Core.List.{List}
+use mathlib.Core.Path.{_≡_, refl, sym}
+use mathlib.Core.Bool.{Bool, true, false, not}
+use mathlib.Core.List.{List, [], _∷_}
 use mathlib.Core.Logic.{_↔_}
-use Prim.Native.Nat.{ℕ, _+_, _≤_, _<_}
+use Prim.Native.Nat.{ℕ, _+_, _*_, _≤_, _<_}
 use native.Mathlib.Omega.{arith}
-use lib.Dec.{ltb, eqb}
+use lib.Dec.{leb, ltb, eqb}
 use lib.IntN.{pos}
 use lib.ListN.{length, getD}
-use borrow.Author.Tests.{le-ltb, ltb-false, eq-eqb, eqb-true, not-false}
+use borrow.Author.Tests.{le-ltb, leb-false, ltb-false, eq-eqb, eqb-true, not-false}
 use Rattle.words.specs.Constants.{largestHours, version}
+use Rattle.words.specs.declared.Asking.{Asking}
+use Rattle.words.specs.declared.Refusal.{Refusal}
 use Rattle.words.specs.declared.Refusal.the-variants.{BadHours, CutShort, BadVersion, BadLength, BytesAfter}
+use Rattle.words.specs.declared.Refusal.the-variants.{BadPlace}
 use Rattle.om3.specs.Series.{badHours, P}
 use Rattle.om3.specs.Table.{Table}
-use Rattle.om3.specs.Checks.{passes, inOrder}
+use Rattle.om3.specs.Checks.{Check, passes, refuses, refuseIf, andThen, inOrder, answerBy}
 use Rattle.om3.specs.Refusals.{tableShort}
-use Rattle.om3.specs.Record.{recordLength, recordOf, headerSize, lengthIn, versionIn, hoursIn}
-use Rattle.om3.specs.Record.{coefficientIn, tableIn, openingChecks, Openable}
+use Rattle.om3.specs.Record.{recordLength, recordOf, headerSize, lengthIn, versionIn, hoursIn, coefficientIn}
+use Rattle.om3.specs.Record.{tableIn}
+use Rattle.om3.specs.RecordCalls.{openingChecks, Openable, checkPlace, checkReach, askingView, asking}
 use Rattle.om3.proofs.Lists.{map-up-from-0}
-use Rattle.om3.proofs.Examined.{first-absent}
+use Rattle.om3.proofs.Examined.{first-absent, in-order-append}
 use Rattle.om3.proofs.Taken.{good-hours}
 use Rattle.om3.proofs.Records.{record-length-in, record-version-in, record-hours-in, record-size}
 
 module _ (r : List ℕ) where
-  formed-opens : Openable r → openingChecks r ≡ passes
+  formed-opens : Openable r → inOrder (openingChecks r) ≡ passes
   unfolding inOrder
   formed-opens w =
       let long : headerSize ≤ length r = omega (arith, w .sized) in
@@ -39,7 +43,7 @@ module _ (r : List ℕ) where
         le-ltb _ _ over,
       )
 
-  pub opens-formed : openingChecks r ≡ passes → Openable r
+  pub opens-formed : inOrder (openingChecks r) ≡ passes → Openable r
   opens-formed h =
       let a = first-absent (ltb (length r) headerSize) CutShort _ h in
       let b = first-absent (not (eqb (versionIn r) version)) BadVersion _ (a .1) in
@@ -56,12 +60,12 @@ module _ (r : List ℕ) where
       }
 
   -- [refusals 8, 9, 10, 11, 19]
-  pub opening-exactly : (openingChecks r ≡ passes) ↔ Openable r
+  pub opening-exactly : (inOrder (openingChecks r) ≡ passes) ↔ Openable r
   opening-exactly = (opens-formed, formed-opens)
 
 -- A written record is taken.
 pub record-opens : (n : ℕ) (t : Table) → 1 ≤ n → n ≤ largestHours → tableShort n t ≡ false
-    → openingChecks (recordOf n t) ≡ passes
+    → inOrder (openingChecks (recordOf n t)) ≡ passes
 record-opens n t some most room =
     let same = record-hours-in n t most in
     formed-opens (recordOf n t)
@@ -71,6 +75,34 @@ record-opens n t some most room =
       stated = rw same (record-length-in n t);
       sized = rw same (record-size n t room);
     })
+
+-- Of a record that opening takes, the bytes reach each coefficient: asking it, by its own checks, is asking its view.
+pub asking-opened : (r : List ℕ) (p : ℕ) → inOrder (openingChecks r) ≡ passes
+    → asking r p ≡ askingView r (P (hoursIn r)) p
+unfolding asking askingView inOrder
+asking-opened r p opens =
+    let parted = in-order-append (openingChecks r) (checkPlace (P (hoursIn r)) p ∷ []) in
+    rw (parted, opens) (by (leb (P (hoursIn r)) p) refl)
+  where
+    told : Check → Asking
+    told c = answerBy Asking.Refused c (Asking.Coefficient (coefficientIn r p))
+
+    reaches : leb (P (hoursIn r)) p ≡ false → ltb (length r) (headerSize + 3 * p + 3) ≡ false
+    reaches e =
+        let below : p < P (hoursIn r) = leb-false _ _ e in
+        let there : headerSize + 3 * p + 3 ≤ length r = omega (arith, opens-formed r opens .sized) in
+        le-ltb _ _ there
+
+    by : (b : Bool) → leb (P (hoursIn r)) p ≡ b → told (andThen (refuseIf b BadPlace) passes)
+        ≡ told (andThen (refuseIf b BadPlace) (andThen (checkReach r p) passes))
+    by true e = refl
+    by false e = rw (reaches e)
+
+-- One that it refuses is refused by the same cause.
+pub asking-refused : (r : List ℕ) (p : ℕ) (why : Refusal) → inOrder (openingChecks r) ≡ refuses why
+    → asking r p ≡ Asking.Refused why
+unfolding asking
+asking-refused r p why e = rw (in-order-append (openingChecks r) (checkPlace (P (hoursIn r)) p ∷ []), e)
 
 -- The coefficient at a place, straight from the bytes, is that of the table unpacked from them. [level 3]
 pub asked-unpacked : (r : List ℕ) (p : ℕ) → p < P (hoursIn r)

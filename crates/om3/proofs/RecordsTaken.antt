@@ -2,7 +2,7 @@
 -- of the table it states, and the table is sound exactly if some series has it. Assumes nothing.
 use mathlib.Core.Path.{_≡_, sym, ap, _∙_}
 use mathlib.Core.Bool.{true, false}
-use mathlib.Core.List.{List}
+use mathlib.Core.List.{List, [], _∷_}
 use mathlib.Core.Logic.{_↔_}
 use Prim.Native.Nat.{ℕ, _+_, _*_, _/_, _≤_}
 use native.Mathlib.Omega.{arith}
@@ -12,14 +12,15 @@ use Rattle.words.specs.Constants.{largestHours}
 use Rattle.om3.specs.Series.{Series, levels, P}
 use Rattle.om3.specs.Table.{Table, coefficient, codeOfPlace, tableOf, HasTable}
 use Rattle.om3.specs.Down.{turnedBack}
+use Rattle.om3.specs.Checks.{passes, andThen, inOrder}
 use Rattle.om3.specs.Sound.{soundTable}
-use Rattle.om3.specs.Checks.{passes, inOrder}
-use Rattle.om3.specs.Refusals.{tableShort, examineTable}
-use Rattle.om3.specs.Record.{Bytes, recordOf, HasRecord, headerSize, hoursIn, coefficientIn, tableIn}
-use Rattle.om3.specs.Record.{openingChecks, readingChecks}
+use Rattle.om3.specs.Refusals.{tableShort, checkRoom, examineTable}
+use Rattle.om3.specs.Bytes.{Bytes}
+use Rattle.om3.specs.Record.{recordOf, HasRecord, headerSize, hoursIn, coefficientIn, tableIn}
+use Rattle.om3.specs.RecordCalls.{openingChecks, unpackingChecks}
 use Rattle.om3.proofs.Lists.{map-up-length}
 use Rattle.om3.proofs.Levels.{levels-some}
-use Rattle.om3.proofs.Examined.{then-passes, order-parts, examine-sound}
+use Rattle.om3.proofs.Examined.{then-first, then-passes, in-order-append, examine-sound}
 use Rattle.om3.proofs.Lent.{not-short}
 use Rattle.om3.proofs.Demand2.{made-has, made-turned, has-sound, turned-series, turned-has}
 use Rattle.om3.proofs.Making.{good-some}
@@ -28,11 +29,18 @@ use Rattle.om3.proofs.Records.{record-hours-in, record-table-in}
 use Rattle.om3.proofs.RecordsOpened.{opens-formed, record-opens}
 use Rattle.om3.proofs.RecordsForth.{part-length, record-forth}
 
+-- The checks of reading are those of opening, then 3 and 4.
+pub unpacking-parted : (r : List ℕ) (lent : Table) → inOrder (unpackingChecks r lent)
+    ≡ andThen (inOrder (openingChecks r))
+    (inOrder (checkRoom (tableShort (hoursIn r) lent) ∷ examineTable (hoursIn r) (tableIn r) ∷ []))
+unpacking-parted r lent = in-order-append (openingChecks r) _
+
 -- With the fields and the room in order, the examination alone decides reading.
-reading-decided : (r : List ℕ) → openingChecks r ≡ passes → (lent : Table) → tableShort (hoursIn r) lent ≡ false
-    → readingChecks r lent ≡ examineTable (hoursIn r) (tableIn r)
+reading-decided : (r : List ℕ) → inOrder (openingChecks r) ≡ passes → (lent : Table)
+    → tableShort (hoursIn r) lent ≡ false → inOrder (unpackingChecks r lent) ≡ examineTable (hoursIn r) (tableIn r)
 reading-decided r opens lent room =
-    unfold inOrder in rw (opens, room) (then-passes (examineTable (hoursIn r) (tableIn r)))
+    unpacking-parted r lent
+    ∙ (unfold inOrder in rw (opens, room) (then-passes (examineTable (hoursIn r) (tableIn r))))
 
 -- A sound table is read back from its record: its coefficients have room in three bytes.
 pub record-back : (n : ℕ) (t : Table) → n ≤ largestHours → tableShort n t ≡ false → soundTable (levels n) n t ≡ true
@@ -41,7 +49,7 @@ record-back n t most room ok =
     record-table-in n t room (sound-threes (levels n) n t (levels-some n) ok) most
 
 -- The table that an opened record states has its places.
-pub opened-room : (r : List ℕ) → openingChecks r ≡ passes → tableShort (hoursIn r) (tableIn r) ≡ false
+pub opened-room : (r : List ℕ) → inOrder (openingChecks r) ≡ passes → tableShort (hoursIn r) (tableIn r) ≡ false
 unfolding tableIn
 opened-room r opens =
     let n = hoursIn r in
@@ -59,11 +67,11 @@ table-record n s t h =
 
 -- A record that is read: the series that its table turns back to has it.
 taken-series : (r : List ℕ) → Bytes r → (lent : Table) → tableShort (hoursIn r) lent ≡ false
-    → readingChecks r lent ≡ passes → (s : List ℤ) × Series (hoursIn r) s × HasRecord (hoursIn r) s r
+    → inOrder (unpackingChecks r lent) ≡ passes → (s : List ℤ) × Series (hoursIn r) s × HasRecord (hoursIn r) s r
 taken-series r bytes lent room h =
     let n = hoursIn r in
     let t = tableIn r in
-    let opens = order-parts (openingChecks r) _ h .0 in
+    let opens = then-first (inOrder (openingChecks r)) _ (sym (unpacking-parted r lent) ∙ h) in
     let good = good-some n (opens-formed r opens .timed) in
     let ok = examine-sound (levels n) n t .0 (sym (reading-decided r opens lent room) ∙ h) in
     let s = turnedBack (levels n) t n in
@@ -92,7 +100,7 @@ module _ (n : ℕ) (s : List ℤ) (series : Series n s) where
       record-back n T (series .most) made-room made-ok
       ∙ (λ i. record { coefficients = made-has n s .coefficients i; codes = made-has n s .codes i })
 
-  pub made-read : (lent : Table) → tableShort n lent ≡ false → readingChecks (recordOf n T) lent ≡ passes
+  pub made-read : (lent : Table) → tableShort n lent ≡ false → inOrder (unpackingChecks (recordOf n T) lent) ≡ passes
   made-read lent room =
       let opens = record-opens n T (series .some) (series .most) made-room in
       reading-decided (recordOf n T) opens lent (rw made-hours room)
@@ -100,10 +108,10 @@ module _ (n : ℕ) (s : List ℤ) (series : Series n s) where
 
 -- Read exactly if some series of the hours that it states has it.
 pub reading-exactly : (r : List ℕ) → Bytes r → (lent : Table) → tableShort (hoursIn r) lent ≡ false
-    → (readingChecks r lent ≡ passes) ↔ ((s : List ℤ) × Series (hoursIn r) s × HasRecord (hoursIn r) s r)
+    → (inOrder (unpackingChecks r lent) ≡ passes) ↔ ((s : List ℤ) × Series (hoursIn r) s × HasRecord (hoursIn r) s r)
 reading-exactly r bytes lent room = (
   taken-series r bytes lent room,
-  λ h. ap (λ (x : List ℕ). readingChecks x lent) (h .2) ∙ made-read (hoursIn r) (h .0) (h .1) lent room,
+  λ h. ap (λ (x : List ℕ). inOrder (unpackingChecks x lent)) (h .2) ∙ made-read (hoursIn r) (h .0) (h .1) lent room,
 )
 
 -- A record states the hours and the table of the series that has it, and its table turns back to that series.

@@ -10,7 +10,7 @@ use lib.ListN.{length, length-append}
 use borrow.Author.Tests.{lt-ltb, le-ltb}
 use Rattle.signed.proofs.Sums.{sub-parts}
 use Rattle.signed.proofs.Rules.{signed}
-use Rattle.om3.specs.Record.{Bytes, numberFrom, InThree, bitsOf, signedOf, threeBytes, signedFrom}
+use Rattle.om3.specs.Bytes.{Bytes, numberFrom, InThree, bitsOf, signedOf, threeBytes, signedFrom}
 use Rattle.om3.proofs.Tests.{below-or-not}
 use Rattle.om3.proofs.Bytes.{bytes-length, bytes-back, number-small, bytes-forth}
 

@@ -20,7 +20,7 @@ use Rattle.om3.specs.Ranges.{Readings}
 use Rattle.om3.specs.Table.{Table, lowDetail, highDetail}
 use Rattle.om3.specs.Down.{leftHalf, rightHalf, rootRange, coefficientAt, lowDetailAt, highDetailAt, reached}
 use Rattle.om3.specs.Sound.{soundTable}
-use Rattle.om3.specs.Record.{InThree}
+use Rattle.om3.specs.Bytes.{InThree}
 use Rattle.om3.proofs.Tests.{even-or-odd}
 use Rattle.om3.proofs.Nodes.{numbered}
 use Rattle.om3.proofs.SoundDetails.{RootValues, root-values, Details}

@@ -18,11 +18,12 @@ use Rattle.om3.specs.Table.{Table}
 use Rattle.om3.specs.Down.{reached}
 use Rattle.om3.specs.Stopped.{hasReading}
 use Rattle.om3.specs.Finished.{walkEnd, towardsFirst, towardsLast, readingAt}
-use Rattle.om3.specs.Looked.{readingOf, hourAnswer}
+use Rattle.om3.specs.Looked.{readingOf}
 use Rattle.om3.proofs.Nodes.{left-in, right-in, start-hour}
 use Rattle.om3.proofs.Ranges.{low-hour}
 use Rattle.om3.proofs.Places.{hour-range}
 use Rattle.om3.proofs.Answers.{joined-right}
+use Rattle.om3.proofs.LookedThrough.{hourAnswer}
 use Rattle.om3.proofs.NodeAnswers.{nodeAnswer, Begins, Ends, begins-joined, ends-joined, found, hour-begins}
 use Rattle.om3.proofs.NodeAnswers.{hour-ends, answer-halves, answer-hour, reading-found, no-answer}
 
@@ -73,7 +74,7 @@ module _ (l n : ℕ) (s : List ℤ) (t : Table) where
 
     -- A walk whose every step shows what it came from ends at what its starting node shows.
     module _ (Shows : Answer → Reading → Type 0) (half : Node → Node)
-        (at-hour : (k : Timestamp) → found (hourAnswer n s k) ≡ true → Shows (hourAnswer n s k) (readingOf n s k))
+        (at-hour : (h : Timestamp) → found (hourAnswer n s h) ≡ true → Shows (hourAnswer n s h) (readingOf n s h))
         (taken : (v : Node) → InTree l v → v .level < l → Taken l v (half v))
         (step : (v : Node) → InTree l v → v .level < l → hasReading l t v ≡ true → Step Shows v (half v)) where
       walk-shows : (h : ℕ) (v : Node) → v .level + h ≡ l → InTree l v → hasReading l t v ≡ true

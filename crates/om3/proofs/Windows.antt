@@ -33,7 +33,7 @@ module _ (a b w : ℕ) (some : 1 ≤ w) where
   columns-from k zero = rw (add-zero k, sub-self (at k))
   columns-from k (suc c) =
       let e : k + 1 + c ≡ k + suc c = omega arith in
-      ap (λ (ts : List Timestamp). columnHours (column a b w k) ++ ts) (columns-from (k + 1) c)
+      ap (λ (hs : List Timestamp). columnHours (column a b w k) ++ hs) (columns-from (k + 1) c)
       ∙ rw e (sym (hours-cut (at k) (at (k + 1)) (at (k + suc c))
       (edge-mono a b w some k (k + 1) (omega arith)) (edge-mono a b w some (k + 1) (k + suc c) (omega arith))))
 

@@ -2,7 +2,8 @@
 --
 --   day n d           the hours of day d of n hours
 --   changeOf a        last reading minus first reading of an answer, or no reading
---   dayChange n t d   what the call for the day change answers; dayChangeBy, where its checks say so
+--   dayChecks n t d   the checks of the call for the day change; dayChange n t d, what it answers
+use mathlib.Core.List.{List, [], _∷_}
 use Prim.Native.Nat.{ℕ, _+_, _*_, min}
 use lib.IntN.{_-ℤ_}
 use Rattle.words.specs.Constants.{dayHours}
@@ -11,9 +12,10 @@ use Rattle.words.specs.declared.DayChange.{DayChange}
 use Rattle.words.specs.declared.Column.{Column}
 use Rattle.om3.specs.Series.{levels, hour}
 use Rattle.om3.specs.Table.{Table}
-use Rattle.om3.specs.Checks.{Check, passes, refuses}
-use Rattle.om3.specs.Refusals.{dayChecks}
-use Rattle.om3.specs.Finished.{answer, examineFinished}
+use Rattle.om3.specs.Checks.{Check, inOrder, answerBy}
+use Rattle.om3.specs.Refusals.{checkHours, checkRoom, tableShort, checkDay}
+use Rattle.om3.specs.Stopped.{examineColumn}
+use Rattle.om3.specs.Finished.{answer, finishedNodes}
 
 -- Day d: hours 24·d to 24·d + 23, cut at n. [columns 21]
 abbrev pub day : (n d : ℕ) → Column
@@ -22,14 +24,19 @@ day n d = record { from = hour (dayHours * d); upto = hour (min (dayHours * d + 
 -- Last reading minus first reading of the day, or "no reading". [columns 21]
 abbrev pub changeOf : Answer → DayChange
 changeOf Answer.NoReading = DayChange.NoReading
-changeOf (Answer.Found s) = DayChange.Grams (s .last .grams -ℤ s .first .grams)
+changeOf (Answer.Found summary) = DayChange.Grams (summary .last .grams -ℤ summary .first .grams)
 
-abbrev pub dayChangeBy : Check → Answer → DayChange
-dayChangeBy passes a = changeOf a
-dayChangeBy (refuses why) a = DayChange.Refused why
+module _ (n : ℕ) (t : Table) (d : ℕ) where
+  -- Day: 1, 3, 5, 4. It examines as a finished column over those hours. [refusals 17] [columns 22]
+  abbrev pub dayChecks : List Check
+  dayChecks =
+      let l = levels n in
+      let x = day n d in
+      checkHours n
+      ∷ checkRoom (tableShort n t)
+      ∷ checkDay n d
+      ∷ examineColumn l t x n (finishedNodes l t x)
+      ∷ []
 
--- It examines as a finished column over those hours. [columns 22] [refusals 17]
-unfoldable pub dayChange : (n : ℕ) (t : Table) (d : ℕ) → DayChange
-dayChange n t d =
-    let x = day n d in
-    dayChangeBy (dayChecks n t d (examineFinished (levels n) t x n)) (answer (levels n) t x)
+  unfoldable pub dayChange : DayChange
+  dayChange = answerBy DayChange.Refused (inOrder dayChecks) (changeOf (answer (levels n) t (day n d)))

@@ -1,11 +1,11 @@
 -- Document 01, "The table": going down, from node 1 to the hours, in a table of l levels. Assumes nothing.
 --
---   leftLow a d, rightLow a d     lows of the halves of a node with low a and low detail d
---   leftHigh a d, rightHigh a d   highs of the halves of a node with high a and high detail d
+--   leftLow, rightLow             lows of the halves of a node with a low and a low detail
+--   leftHigh, rightHigh           highs of the halves of a node with a high and a high detail
 --   leftHalf, rightHalf           ranges of the halves of a node with a range and two details, marks included
 --   firstOfPair, secondOfPair     ranges of the two hours of a pair with a range and a code
 --   coefficientAt t p             the coefficient at place p; codeAt, lowDetailAt, highDetailAt by a node's number
---   rootRange a b                 the range that the root values a and b give node 1
+--   rootRange low high            the range that the root values give node 1
 --   leftOf l t v r, rightOf       from the range r of node v to those of its halves, in the table t
 --   reached l t v                 the range reached at node v; reachedAt l t j k, at node k of level j
 --   turnedBack l t n              what the n hours come out as
@@ -29,44 +29,54 @@ use Rattle.om3.specs.Table.{Table}
 
 -- If D ≤ 0 the left low is A and the right low A − D; else the right low is A and the left low A + D. [table 10]
 -- Deviation: document 004's equation (3) prints A − D for the left low; only A + D undoes its equation (1).
+-- Deviation: it tests D < 0; we test D ≤ 0, as document 01 does, and at 0 both give the same.
 abbrev pub leftLow : ℤ → ℤ → ℤ
-leftLow a d = cond (leZ d (pos 0)) a (a +ℤ d)
+leftLow low lowDetail = cond (leZ lowDetail (pos 0)) low (low +ℤ lowDetail)
 
 abbrev pub rightLow : ℤ → ℤ → ℤ
-rightLow a d = cond (leZ d (pos 0)) (a -ℤ d) a
+rightLow low lowDetail = cond (leZ lowDetail (pos 0)) (low -ℤ lowDetail) low
 
 -- If D ≥ 0 the left high is A and the right high A − D; else the right high is A and the left high A + D. [table 11]
+-- Deviation: document 004 prints no equation for the highs; this undoes its equation (2).
 abbrev pub leftHigh : ℤ → ℤ → ℤ
-leftHigh a d = cond (leZ (pos 0) d) a (a +ℤ d)
+leftHigh high highDetail = cond (leZ (pos 0) highDetail) high (high +ℤ highDetail)
 
 abbrev pub rightHigh : ℤ → ℤ → ℤ
-rightHigh a d = cond (leZ (pos 0) d) (a -ℤ d) a
+rightHigh high highDetail = cond (leZ (pos 0) highDetail) (high -ℤ highDetail) high
 
 -- The left half takes the whole range at the mark of the left, is empty at that of the right, and else goes down by the
--- low detail d and the high detail e. Halves of an empty node are empty. [table 5, 10, 11]
+-- two details. Halves of an empty node are empty. [table 5, 10, 11]
 abbrev pub leftHalf : Range → ℤ → ℤ → Range
-leftHalf Empty d e = Empty
-leftHalf (Held a b) d e =
-    cond (isNumber leftMark d) (Held a b)
-    (cond (isNumber rightMark d) Empty
-    (Held (leftLow a d) (leftHigh b e)))
+leftHalf Empty lowDetail highDetail = Empty
+leftHalf (Held low high) lowDetail highDetail =
+    cond (isNumber leftMark lowDetail) (Held low high)
+    (cond (isNumber rightMark lowDetail) Empty
+    (Held (leftLow low lowDetail) (leftHigh high highDetail)))
 
 abbrev pub rightHalf : Range → ℤ → ℤ → Range
-rightHalf Empty d e = Empty
-rightHalf (Held a b) d e =
-    cond (isNumber rightMark d) (Held a b)
-    (cond (isNumber leftMark d) Empty
-    (Held (rightLow a d) (rightHigh b e)))
+rightHalf Empty lowDetail highDetail = Empty
+rightHalf (Held low high) lowDetail highDetail =
+    cond (isNumber rightMark lowDetail) (Held low high)
+    (cond (isNumber leftMark lowDetail) Empty
+    (Held (rightLow low lowDetail) (rightHigh high highDetail)))
 
 -- The first hour of a pair is the high at code 0 and the low at codes 1 and 2; at any other code it is a gap. [table 6]
 abbrev pub firstOfPair : Range → ℕ → Range
 firstOfPair Empty c = Empty
-firstOfPair (Held a b) c = cond (eqb c 0) (Held b b) (cond (eqb c 1) (Held a a) (cond (eqb c 2) (Held a a) Empty))
+firstOfPair (Held low high) c =
+    cond (eqb c 0) (Held high high)
+    (cond (eqb c 1) (Held low low)
+    (cond (eqb c 2) (Held low low)
+    Empty))
 
 -- The second hour is the low at codes 0 and 3 and the high at code 1; at any other code it is a gap. [table 6]
 abbrev pub secondOfPair : Range → ℕ → Range
 secondOfPair Empty c = Empty
-secondOfPair (Held a b) c = cond (eqb c 0) (Held a a) (cond (eqb c 1) (Held b b) (cond (eqb c 3) (Held a a) Empty))
+secondOfPair (Held low high) c =
+    cond (eqb c 0) (Held low low)
+    (cond (eqb c 1) (Held high high)
+    (cond (eqb c 3) (Held low low)
+    Empty))
 
 -- The coefficient at a place. What lies past the end is never asked for; it reads 0.
 abbrev pub coefficientAt : Table → ℕ → ℤ
@@ -85,7 +95,7 @@ codeAt l t i = getD (t .codes) (i .0 - 2 ^ l / 2) 0
 
 -- Node 1 is empty if its low is the mark, and else has the low and the high of places 0 and 1. [table 2]
 abbrev pub rootRange : ℤ → ℤ → Range
-rootRange a b = cond (isGap a) Empty (Held a b)
+rootRange low high = cond (isGap low) Empty (Held low high)
 
 module _ (l : ℕ) (t : Table) where
   -- From the range of node v to those of its halves.

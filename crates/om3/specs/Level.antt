@@ -1,14 +1,14 @@
 -- Document 01, "One level, single coefficients": one level's details. Assumes nothing.
 --
---   hasLevel          whether there is a level j of details
---   levelStretch      the places of level j's details in a table lent as coefficients for n hours
---   levelPart         that stretch of the lent coefficients itself
+--   hasLevel n j lent        whether there is a level j of details in a table of n hours, lent as so many coefficients
+--   levelStretch n j lent    the places of its details
+--   placesOf stretch cs      what stands at these places of the coefficients
 use mathlib.Core.Bool.{Bool, cond, not, _&&_, _||_}
 use mathlib.Core.List.{List}
 use Prim.Native.Nat.{ℕ, _+_, _*_, _^_}
 use lib.Dec.{leb}
 use lib.IntN.{ℤ}
-use lib.ListN.{length, take, drop}
+use lib.ListN.{take, drop}
 use Rattle.words.specs.declared.Stretch.{Stretch}
 use Rattle.om3.specs.Series.{badHours, levels, P}
 use Rattle.om3.specs.Refusals.{short}
@@ -22,7 +22,6 @@ unfoldable pub levelStretch : (n j lent : ℕ) → Stretch
 levelStretch n j lent =
     cond (hasLevel n j lent) (record { start = 2 * 2 ^ j; length = 2 * 2 ^ j }) (record { start = 0; length = 0 })
 
-abbrev pub levelPart : (n j : ℕ) → List ℤ → List ℤ
-levelPart n j coefficients =
-    let stretch = levelStretch n j (length coefficients) in
-    take (stretch .length) (drop (stretch .start) coefficients)
+-- That stretch of the table itself. [level 1]
+abbrev pub placesOf : Stretch → List ℤ → List ℤ
+placesOf stretch coefficients = take (stretch .length) (drop (stretch .start) coefficients)

@@ -10,7 +10,9 @@ pub mod Sound
 pub mod Refusals
 pub mod Calls
 pub mod Level
+pub mod Bytes
 pub mod Record
+pub mod RecordCalls
 pub mod Columns
 pub mod Stopped
 pub mod Finished

@@ -4,7 +4,9 @@
 --   any p xs         whether some element passes the test p
 --   every p xs       whether each element passes it; of no elements each does
 --   keep p xs        the elements that pass it, in their order
---   firstFrom p j f  the least of j, j + 1, .., j + f that passes it, and j + f where none of them does
+--   lastOf x xs      the last of x and the elements xs that follow it
+--   sum ms           all numbers of a list together
+--   firstFrom p j c  the least of j, j + 1, .., j + c that passes the test p, and j + c where none of them does
 use mathlib.Core.Bool.{Bool, true, false, cond, _&&_, _||_}
 use mathlib.Core.List.{List, [], _∷_}
 use Prim.Native.Nat.{ℕ, zero, suc, _+_}
@@ -26,6 +28,14 @@ module _ {A : Type 0} (p : A → Bool) where
   keep [] = []
   keep (x ∷ xs) = cond (p x) (x ∷ keep xs) (keep xs)
 
+unfoldable pub lastOf : {A : Type 0} → A → List A → A
+lastOf x [] = x
+lastOf x (y ∷ ys) = lastOf y ys
+
+abbrev pub sum : List ℕ → ℕ
+sum [] = 0
+sum (m ∷ ms) = m + sum ms
+
 unfoldable pub firstFrom : (ℕ → Bool) → ℕ → ℕ → ℕ
 firstFrom p j zero = j
-firstFrom p j (suc f) = cond (p j) j (firstFrom p (suc j) f)
+firstFrom p j (suc c) = cond (p j) j (firstFrom p (suc j) c)

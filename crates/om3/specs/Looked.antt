@@ -1,47 +1,61 @@
 -- Demand 3: what a look through hours gives, with which the answers from a table are compared, and when one range lies
 -- within another. Assumes nothing.
 --
---   readingOf n s t      what hour t holds, with its hour
---   hourAnswer n s t     the answer of one hour: first, last, low and high are its reading; at a gap there is none
---   lookThrough n s ts   the answer of some hours, looked through one after the other
+--   readingsIn n s hs    of the hours hs those that hold a reading, each with it; readingOf n s h, that of hour h
+--   least z zs           the least of z and the numbers zs that follow it; greatest, the greatest
+--   gramsIn readings     what they weigh
+--   answerOf readings    first, last, lowest and highest of some readings, or that there is none
+--   lookThrough n s hs   what a look through the hours hs of a series gives
 --   Covers r z           the reading z lies between the low and the high of the range r; no reading lies in an absent
 --                        range
 --   LiesWithin r q       the range r lies between the low and the high of q; an absent range lies within any; nothing
 --                        but an absent one lies within an absent one
-use mathlib.Core.Bool.{cond}
-use mathlib.Core.List.{List, [], _∷_}
+use mathlib.Core.Bool.{not}
+use mathlib.Core.List.{List, [], _∷_, map}
 use Prim.Native.Nat.{ℕ}
 use lib.IntN.{ℤ}
 use lib.Signed.{_≤ℤ_}
+use Rattle.signed.specs.Choice.{minZ, maxZ}
 use Rattle.words.specs.declared.Timestamp.{Timestamp}
 use Rattle.words.specs.declared.Range.{Range}
 use Rattle.words.specs.declared.Range.the-variants.{Empty, Held}
 use Rattle.words.specs.declared.Reading.{Reading}
 use Rattle.words.specs.declared.Answer.{Answer}
+use Rattle.om3.specs.Lists.{keep, lastOf}
 use Rattle.om3.specs.Series.{isGap, hourOf}
-use Rattle.om3.specs.Joined.{joined}
 
--- What an hour holds, with its hour.
+-- Keep the hours that hold a reading, ..
 abbrev pub readingOf : ℕ → List ℤ → Timestamp → Reading
-readingOf n s t = record { hour = t; grams = hourOf n s t }
+readingOf n s h = record { hour = h; grams = hourOf n s h }
 
--- An hour that holds a reading has it as its first, its last, its lowest and its highest.
-abbrev pub hourAnswer : ℕ → List ℤ → Timestamp → Answer
-hourAnswer n s t =
-    cond (isGap (hourOf n s t)) Answer.NoReading
-    (Answer.Found
+unfoldable pub readingsIn : ℕ → List ℤ → List Timestamp → List Reading
+readingsIn n s hs = map (readingOf n s) (keep (λ h. not (isGap (hourOf n s h))) hs)
+
+-- .. and take the first of them, the last of them, the least and the greatest.
+unfoldable pub least : ℤ → List ℤ → ℤ
+least z [] = z
+least z (y ∷ ys) = minZ z (least y ys)
+
+unfoldable pub greatest : ℤ → List ℤ → ℤ
+greatest z [] = z
+greatest z (y ∷ ys) = maxZ z (greatest y ys)
+
+abbrev pub gramsIn : List Reading → List ℤ
+gramsIn readings = map (λ (reading : Reading). reading .grams) readings
+
+abbrev pub answerOf : List Reading → Answer
+answerOf [] = Answer.NoReading
+answerOf (reading ∷ further) =
+    Answer.Found
     (record {
-      first = readingOf n s t;
-      last = readingOf n s t;
-      low = hourOf n s t;
-      high = hourOf n s t;
-    }))
+      first = reading;
+      last = lastOf reading further;
+      low = least (reading .grams) (gramsIn further);
+      high = greatest (reading .grams) (gramsIn further);
+    })
 
--- The first reading met stays the first, the last one met is the last, and low and high are the least and the greatest
--- of all; where no hour holds a reading there is none.
 unfoldable pub lookThrough : ℕ → List ℤ → List Timestamp → Answer
-lookThrough n s [] = Answer.NoReading
-lookThrough n s (t ∷ ts) = joined (hourAnswer n s t) (lookThrough n s ts)
+lookThrough n s hs = answerOf (readingsIn n s hs)
 
 -- An absent range has no reading within it.
 abbrev pub Covers : Range → ℤ → Type 0
@@ -51,5 +65,5 @@ Covers (Held low high) z = (low ≤ℤ z) × (z ≤ℤ high)
 -- An absent range lies within any, and only such a one within an absent one.
 abbrev pub LiesWithin : Range → Range → Type 0
 LiesWithin Empty q = Unit
-LiesWithin (Held a b) Empty = ⊥
-LiesWithin (Held a b) (Held c d) = (c ≤ℤ a) × (b ≤ℤ d)
+LiesWithin (Held low high) Empty = ⊥
+LiesWithin (Held low high) (Held low′ high′) = (low′ ≤ℤ low) × (high ≤ℤ high′)

@@ -11,8 +11,6 @@
 --   hours l v        the hours it covers, in order
 --   levelOf l i      the level of the node that has number i, for i from 1 to 2·2^l − 1
 --   nodeOf l i       that node
---   Located l v i f w   node v has number i and covers the w hours from hour f on
-use mathlib.Core.Path.{_≡_}
 use mathlib.Core.Bool.{Bool, cond}
 use mathlib.Core.List.{List}
 use Prim.Native.Nat.{ℕ, zero, suc, _+_, _-_, _*_, _^_, _≤_, _<_}
@@ -71,11 +69,3 @@ levelOf (suc l) i = cond (leb (2 ^ suc l) (i .0)) (suc l) (levelOf l i)
 
 abbrev pub nodeOf : ℕ → NodeId → Node
 nodeOf l i = record { level = levelOf l i; index = i .0 - 2 ^ levelOf l i }
-
--- Node v of a table of l levels has number i and covers the w hours from hour f on: how the code carries a node.
-pub record Located (l : ℕ) (v : Node) (i f w : ℕ) : Type 0 where
-  pub deep : v .level ≤ l
-  pub among : v .index < 2 ^ v .level
-  pub numbered : number v .0 ≡ i
-  pub begins : start l v ≡ f
-  pub covers : width l v ≡ w

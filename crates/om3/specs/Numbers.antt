@@ -32,29 +32,30 @@ Answered cs = map (λ (c : Case). replyTo (c .question)) cs ≡ map (λ (c : Cas
 
 infix 20 _is_
 abbrev _is_ : Question → Reply → Case
-_is_ q r = record { question = q; reply = r }
+_is_ question reply = record { question = question; reply = reply }
 
 -- Grams, and grams below zero.
 abbrev g : ℕ → ℤ
-g x = pos x
+g m = pos m
 
 abbrev -g : ℕ → ℤ
--g x = negℤ (pos x)
+-g m = negℤ (pos m)
 
 -- A column as the printer prints it, with the hours of its first and its last reading.
 abbrev shown : (firstHour lastHour first last low high count : ℕ) → Reply
-shown t u x y low high count =
-    says (taken (pos t ∷ g x ∷ pos u ∷ g y ∷ g low ∷ g high ∷ pos count ∷ []))
+shown firstHour lastHour first last low high count =
+    says (taken (pos firstHour ∷ g first ∷ pos lastHour ∷ g last ∷ g low ∷ g high ∷ pos count ∷ []))
 
 -- A column at a depth, with both ranges; without the inner one.
 abbrev ranges : (outerLow outerHigh innerLow innerHigh count : ℕ) → Reply
-ranges a b c d count = says (taken (g a ∷ g b ∷ g c ∷ g d ∷ pos count ∷ []))
+ranges outerLow outerHigh innerLow innerHigh count =
+    says (taken (g outerLow ∷ g outerHigh ∷ g innerLow ∷ g innerHigh ∷ pos count ∷ []))
 
 abbrev outerAlone : (outerLow outerHigh count : ℕ) → Reply
-outerAlone a b count = says (taken (g a ∷ g b ∷ gap ∷ gap ∷ pos count ∷ []))
+outerAlone outerLow outerHigh count = says (taken (g outerLow ∷ g outerHigh ∷ gap ∷ gap ∷ pos count ∷ []))
 
 abbrev refused : (number place : ℕ) → Reply
-refused m p = says (record { number = m; place = p; values = [] })
+refused number place = says (record { number = number; place = place; values = [] })
 
 -- The hours from a up to, not including, b.
 abbrev hoursOf : (a b : ℕ) → Reply
@@ -198,10 +199,10 @@ further =
     ∷ (askFor fourteen 2 is refused 13 0)
     ∷ []
 
--- What is printed for the text t.
+-- What is printed for a text.
 infix 20 _prints_
 abbrev _prints_ : String → String → Case
-_prints_ t p = printFor (ascii t) is bytes (ascii p)
+_prints_ text lines = printFor (ascii text) is bytes (ascii lines)
 
 -- Document 01's example, exactly, and texts where it leaves room. [printer 9]
 abbrev pub printing : List Case

@@ -6,17 +6,16 @@
 use mathlib.Core.List.{List, [], _∷_}
 use Prim.Native.Nat.{ℕ}
 use lib.IntN.{ℤ, pos}
-use lib.ListN.{replicate}
-use Rattle.words.specs.Said.{Said, taken, refused as refusedBy}
+use lib.ListN.{length, replicate}
+use Rattle.words.specs.Said.{Said, taken, saidOfTaking}
 use Rattle.words.specs.Said.{saidOfFinished, saidOfStopped, saidOfEdges, saidOfDayChange}
 use Rattle.words.specs.Said.{saidOfWriting, saidOfUnpacking, saidOfOpening, saidOfAsking}
 use Rattle.om3.specs.Series.{levels}
-use Rattle.om3.specs.Table.{Table, tableOf}
-use Rattle.om3.specs.Checks.{Check, passes, refuses}
-use Rattle.om3.specs.Refusals.{makingChecks, turningBackChecks}
-use Rattle.om3.specs.Level.{levelPart}
-use Rattle.om3.specs.Record.{recordLength, recordSize, recordOf, hoursIn, openedRecord, askedRecord}
-use Rattle.om3.specs.Record.{writingChecks, writingBy, readingChecks, unpackingBy}
+use Rattle.om3.specs.Table.{Table, lent, tableOf}
+use Rattle.om3.specs.Calls.{making, turningBack}
+use Rattle.om3.specs.Level.{levelStretch, placesOf}
+use Rattle.om3.specs.Record.{recordLength, recordSize, recordOf}
+use Rattle.om3.specs.RecordCalls.{writing, unpacking, opening, asking}
 use Rattle.om3.specs.Columns.{edges}
 use Rattle.om3.specs.Stopped.{stopped}
 use Rattle.om3.specs.Finished.{finished}
@@ -24,10 +23,10 @@ use Rattle.om3.specs.Days.{dayChange}
 use Rattle.om3.specs.Printed.{printed}
 
 pub data Question : Type 0 where
-  -- the table of n hours that hold s; the checks of making it
+  -- the table of n hours that hold s; what making it answers
   tableFor : (n : ℕ) (s : List ℤ) → Question
   makingFor : (n : ℕ) (s : List ℤ) → Question
-  -- the checks of turning back, with room for n hours
+  -- what turning back answers, with room for n hours
   turningFor : (n : ℕ) (coefficients : List ℤ) (codes : List ℕ) → Question
   -- in the table of n hours that hold s: a finished column, a column at depth d, the change of a day
   finishedFor : (n : ℕ) (s : List ℤ) (a b w k : ℕ) → Question
@@ -45,7 +44,7 @@ pub data Question : Type 0 where
   recordFor : (n : ℕ) (s : List ℤ) → Question
   -- what writing a table answers, with so many bytes lent; what reading bytes answers, with so many coefficients and
   -- codes lent
-  writingFor : (n : ℕ) (coefficients : List ℤ) (codes : List ℕ) (lent : ℕ) → Question
+  writingFor : (n : ℕ) (coefficients : List ℤ) (codes : List ℕ) (room : ℕ) → Question
   readingFor : (bytes : List ℕ) (coefficients codes : ℕ) → Question
   -- what opening bytes answers; asking them for a coefficient
   openFor : (bytes : List ℕ) → Question
@@ -63,30 +62,23 @@ tableFrom n s = tableOf (levels n) n s
 
 -- Room lent for so many coefficients and codes.
 abbrev room : (coefficients codes : ℕ) → Table
-room cs ks = record { coefficients = replicate cs (pos 0); codes = replicate ks 0 }
-
-abbrev saidOfCheck : Check → Said
-saidOfCheck passes = taken []
-saidOfCheck (refuses why) = refusedBy why
+room cs ks = lent (replicate cs (pos 0)) (replicate ks 0)
 
 -- The reply by the definitions.
 abbrev pub replyTo : Question → Reply
 replyTo (tableFor n s) = table (tableFrom n s .coefficients) (tableFrom n s .codes)
-replyTo (makingFor n s) = says (saidOfCheck (makingChecks n s (tableFrom n s)))
-replyTo (turningFor n cs ks) = says (saidOfCheck (turningBackChecks n (record { coefficients = cs; codes = ks }) n))
+replyTo (makingFor n s) = says (saidOfTaking (making n s (tableFrom n s)))
+replyTo (turningFor n cs ks) = says (saidOfTaking (turningBack n (lent cs ks) n))
 replyTo (finishedFor n s a b w k) = says (saidOfFinished (finished n (tableFrom n s) a b w k))
 replyTo (stoppedFor n s a b w k d) = says (saidOfStopped (stopped n (tableFrom n s) a b w k d))
 replyTo (dayFor n s d) = says (saidOfDayChange (dayChange n (tableFrom n s) d))
-replyTo (finishedIn n cs ks a b w k) =
-    says (saidOfFinished (finished n (record { coefficients = cs; codes = ks }) a b w k))
-replyTo (levelFor n j cs) = says (taken (levelPart n j cs))
+replyTo (finishedIn n cs ks a b w k) = says (saidOfFinished (finished n (lent cs ks) a b w k))
+replyTo (levelFor n j cs) = says (taken (placesOf (levelStretch n j (length cs)) cs))
 replyTo (recordFor n s) = bytes (recordOf n (tableFrom n s))
-replyTo (writingFor n cs ks lent) =
-    says (saidOfWriting (writingBy (writingChecks n (record { coefficients = cs; codes = ks }) lent) n))
-replyTo (readingFor r cs ks) =
-    says (saidOfUnpacking (unpackingBy (readingChecks r (room cs ks)) (hoursIn r)))
-replyTo (openFor r) = says (saidOfOpening (openedRecord r))
-replyTo (askFor r p) = says (saidOfAsking (askedRecord r p))
+replyTo (writingFor n cs ks size) = says (saidOfWriting (writing n (lent cs ks) size))
+replyTo (readingFor r cs ks) = says (saidOfUnpacking (unpacking r (room cs ks)))
+replyTo (openFor r) = says (saidOfOpening (opening r))
+replyTo (askFor r p) = says (saidOfAsking (asking r p))
 replyTo (printFor text) = bytes (printed text)
 replyTo (edgesFor n a b w k) = says (saidOfEdges (edges n a b w k))
 replyTo (sizeFor n) = says (taken (pos (recordLength n) ∷ pos (recordSize n) ∷ []))

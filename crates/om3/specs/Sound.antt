@@ -1,16 +1,16 @@
 -- Document 01, "A sound node". Assumes nothing.
 --
---   soundRootValues a b     whether the root values a and b, called node 0, are sound
---   isDetail d              whether d is a detail; bothAre m d e, whether both are the mark m
+--   soundRootValues         whether the root values, low and high, called node 0, are sound
+--   isDetail z              whether z is a detail; bothAre mark, whether two details are both this mark
 --   ordered r               whether low ≤ high in a range
---   soundDetails r d e      whether a node that is not a pair is sound, with its range and its details
+--   soundDetails r          whether a node that is not a pair is sound, with its range and its two details
 --   soundCode r c           whether the code of a pair fits its range
---   gapFrom n t r           whether hour t may come out as r: from hour n on as a gap
+--   gapFrom n h r           whether hour h may come out as r: from hour n on as a gap
 --   soundNode l n t v       whether node v of a table of n hours and l levels is sound; soundPair, if it is a pair
---   nodesBelow h v          node v and the nodes below it, h levels in all, in the order of examination
+--   nodesBelow c v          node v and the nodes below it, c levels in all, in the order of examination
 --   tableNodes l            all nodes of a table, pairs the last level; allNodes l has the single hours too
 --   soundTable l n t        whether a table is sound
---   examineNode i b         the examination of node i, which is sound or not; examineRoot t, of node 0
+--   examineNode i isSound   the examination of node i; examineRoot t, of node 0
 --   examineNodes l n t vs   the examination of a list of nodes; examine, of node 0 and then of the list
 use mathlib.Core.Bool.{Bool, true, cond, not, _&&_, _||_}
 use mathlib.Core.List.{List, [], _∷_, _++_, map}
@@ -36,37 +36,40 @@ use Rattle.om3.specs.Down.{highDetailAt, codeAt, reached}
 
 -- Both 2,000,003, or both readings with low ≤ high. [sound 1]
 abbrev pub soundRootValues : ℤ → ℤ → Bool
-soundRootValues a b = (isGap a && isGap b) || (isReading a && isReading b && leZ a b)
+soundRootValues low high = (isGap low && isGap high) || (isReading low && isReading high && leZ low high)
 
 -- A detail is from −2,000,000 to 2,000,000. [sound 3]
 abbrev pub isDetail : ℤ → Bool
-isDetail d = leZ (negℤ (pos largestDetail)) d && leZ d (pos largestDetail)
+isDetail z = leZ (negℤ (pos largestDetail)) z && leZ z (pos largestDetail)
 
 -- Low ≤ high; an empty range has neither.
 abbrev pub ordered : Range → Bool
 ordered Empty = true
 ordered (Held low high) = leZ low high
 
-abbrev pub bothAre : ℕ → ℤ → ℤ → Bool
-bothAre mark d e = isNumber mark d && isNumber mark e
+abbrev pub bothAre : (mark : ℕ) → ℤ → ℤ → Bool
+bothAre mark lowDetail highDetail = isNumber mark lowDetail && isNumber mark highDetail
 
 -- A node that is not a pair, with its range and its details: if empty, both are 2,000,003; otherwise both are
 -- 2,000,001, or both 2,000,002, or both are details and each half reached by going down has low ≤ high. [sound 2, 3]
 abbrev pub soundDetails : Range → ℤ → ℤ → Bool
-soundDetails Empty d e = bothAre gapMark d e
-soundDetails (Held a b) d e =
-    bothAre leftMark d e || bothAre rightMark d e
-    || (isDetail d && isDetail e && ordered (leftHalf (Held a b) d e) && ordered (rightHalf (Held a b) d e))
+soundDetails Empty lowDetail highDetail = bothAre gapMark lowDetail highDetail
+soundDetails (Held low high) lowDetail highDetail =
+    bothAre leftMark lowDetail highDetail
+    || bothAre rightMark lowDetail highDetail
+    || (isDetail lowDetail && isDetail highDetail
+    && ordered (leftHalf (Held low high) lowDetail highDetail)
+    && ordered (rightHalf (Held low high) lowDetail highDetail))
 
 -- A pair, with its range and its code: if empty, 4; otherwise 0, or 1 with low < high, or 2 or 3 with low = high.
 -- [sound 4]
 abbrev pub soundCode : Range → ℕ → Bool
 soundCode Empty c = eqb c 4
-soundCode (Held a b) c = eqb c 0 || (eqb c 1 && ltZ a b) || ((eqb c 2 || eqb c 3) && eqZ a b)
+soundCode (Held low high) c = eqb c 0 || (eqb c 1 && ltZ low high) || ((eqb c 2 || eqb c 3) && eqZ low high)
 
 -- An hour from n on comes out as a gap. [sound 4]
 abbrev pub gapFrom : ℕ → Timestamp → Range → Bool
-gapFrom n t r = ltb (t .0) n || isEmpty r
+gapFrom n h r = ltb (h .0) n || isEmpty r
 
 module _ (l n : ℕ) (t : Table) where
   abbrev pub soundPair : Node → Bool
@@ -75,15 +78,18 @@ module _ (l n : ℕ) (t : Table) where
       && gapFrom n (firstHour l (left v)) (firstOfPair (reached l t v) (codeAt l t (number v)))
       && gapFrom n (firstHour l (right v)) (secondOfPair (reached l t v) (codeAt l t (number v)))
 
+  -- Deviation: document 004 trusts its coefficients; we examine them, since a record may come damaged.
   unfoldable pub soundNode : Node → Bool
   soundNode v =
       cond (isPair l v) (soundPair v)
       (soundDetails (reached l t v) (lowDetailAt t (number v)) (highDetailAt t (number v)))
 
 -- Each node before its halves, left before right, with all below the left half before the right half. [sound 6]
+-- Deviation: document 004 goes breadth first, over all columns at once; we go depth first, over one, since document 01
+-- tells the place of refusal 4 so.
 unfoldable pub nodesBelow : ℕ → Node → List Node
 nodesBelow zero v = []
-nodesBelow (suc h) v = v ∷ nodesBelow h (left v) ++ nodesBelow h (right v)
+nodesBelow (suc c) v = v ∷ nodesBelow c (left v) ++ nodesBelow c (right v)
 
 -- Levels 0 to l − 1. [hours 6]
 abbrev pub tableNodes : ℕ → List Node

@@ -5,13 +5,13 @@
 --   above v                      the node of which v is a half
 --   opened d v, visited d v      a node is opened, is visited, at depth d
 --   openedNodes d                the opened nodes in the order of examination
---   countAt d                    the count at depth d
+--   countAt d                    the count at depth d; 0 for a column without an hour
 --   rangeOver vs                 the least low and the greatest high over some nodes
 --   isOuter d v, isInner d v     a node counts for the outer, for the inner, range at depth d
 --   outer d, inner d             the two ranges at depth d; an absent one is empty
 --   innerNodes d                 the nodes of the inner range, in the order of their hours
---   examineOpened n d            the examination of a column at depth d, in a table of n hours
---   stopped n t a b w k d        what the call for a column at a depth answers; stoppedBy, where its checks say so
+--   examineColumn n vs           the examination of a column's nodes vs, in a table of n hours
+--   stoppedChecks                the checks of the call for a column at a depth; stopped n t a b w k d, what it answers
 use mathlib.Core.Bool.{Bool, cond, not, _&&_, _||_}
 use mathlib.Core.List.{List, [], _∷_}
 use Prim.Native.Nat.{ℕ, _+_, _-_, _*_, _/_}
@@ -27,9 +27,9 @@ use Rattle.om3.specs.Nodes.{Node, hours}
 use Rattle.om3.specs.Ranges.{isEmpty, both}
 use Rattle.om3.specs.Table.{Table}
 use Rattle.om3.specs.Down.{reached}
-use Rattle.om3.specs.Checks.{Check, passes, refuses}
+use Rattle.om3.specs.Checks.{Check, passes, inOrder, answerBy}
 use Rattle.om3.specs.Sound.{allNodes, examine}
-use Rattle.om3.specs.Refusals.{checkDepth, columnChecks}
+use Rattle.om3.specs.Refusals.{checkHours, checkRoom, tableShort, checkWindow, checkColumn, checkDepth}
 use Rattle.om3.specs.Columns.{column, inColumn, noHour}
 
 -- The node above: v is one of its halves.
@@ -56,6 +56,8 @@ module _ (l : ℕ) (t : Table) where
 module _ (l : ℕ) (t : Table) (x : Column) where
   -- A node is opened if it has a reading, shares an hour with the column and is not wholly inside it; at depth d only a
   -- node of level below d. [columns 6, 7]
+  -- Deviation: document 004 prunes nodes whose range is covered already, and does not open pairs; we prune none, since
+  -- counts, first and last would change, and open pairs, so that low and high are exact.
   unfoldable pub opened : ℕ → Node → Bool
   opened d v = hasReading l t v && shares l x v && not (inside l x v) && ltb (v .level) d
 
@@ -63,14 +65,17 @@ module _ (l : ℕ) (t : Table) (x : Column) where
   openedNodes d = keep (opened d) (allNodes l)
 
   -- Visited nodes: node 1 and both halves of every opened node. [columns 8]
+  -- Deviation: document 004 starts at the level that has w nodes or more; we start at node 1, so that each depth has an
+  -- answer.
   unfoldable pub visited : ℕ → Node → Bool
   visited d v = eqb (v .level) 0 || opened d (above v)
 
-  -- The count is 1 + 2·(opened). [columns 9]
+  -- The count is 1 + 2·(opened); a column without an hour has count 0. [columns 5, 9]
   unfoldable pub countAt : ℕ → ℕ
-  countAt d = 1 + 2 * length (openedNodes d)
+  countAt d = cond (noHour x) 0 (1 + 2 * length (openedNodes d))
 
   -- Outer range: over visited, unopened, non-empty nodes that share an hour with the column. [columns 10]
+  -- Deviation: document 004 has no such range: it shows after each level what the nodes inside give, our inner range.
   abbrev pub isOuter : ℕ → Node → Bool
   isOuter d v = visited d v && not (opened d v) && hasReading l t v && shares l x v
 
@@ -88,20 +93,30 @@ module _ (l : ℕ) (t : Table) (x : Column) where
   abbrev pub inner : ℕ → Range
   inner d = rangeOver l t (innerNodes d)
 
-  -- Node 0, then the opened nodes in the order of examination; no node at all for a column without an hour. Only these
-  -- are examined: an unsound node elsewhere refuses nothing, and the answer is by the same rules. [columns 5, 16, 18]
-  abbrev pub examineOpened : (n d : ℕ) → Check
-  examineOpened n d = cond (noHour x) passes (examine l n t (openedNodes d))
+  -- Node 0, then these nodes in their order; for a column without an hour the table is not examined. Only these are
+  -- examined: an unsound node elsewhere refuses nothing, and the answer is by the same rules. [columns 5, 16, 18]
+  abbrev pub examineColumn : (n : ℕ) → List Node → Check
+  examineColumn n vs = cond (noHour x) passes (examine l n t vs)
 
-  -- A column without an hour has count 0 and both ranges absent. [columns 5]
-  abbrev pub stoppedBy : Check → ℕ → Stopped
-  stoppedBy passes d =
-      cond (noHour x) (Stopped.Ranges Empty Empty 0) (Stopped.Ranges (outer d) (inner d) (countAt d))
-  stoppedBy (refuses why) d = Stopped.Refused why
+-- Column k of [a, b) in w columns, stopped at depth d.
+module _ (n : ℕ) (t : Table) (a b w k d : ℕ) where
+  -- Columns: 1, 3, 5, 6, 7, 4; opened nodes are examined. [refusals 17] [columns 16]
+  abbrev pub stoppedChecks : List Check
+  stoppedChecks =
+      let l = levels n in
+      let x = column a b w k in
+      checkHours n
+      ∷ checkRoom (tableShort n t)
+      ∷ checkWindow n a b
+      ∷ checkColumn w k
+      ∷ checkDepth n d
+      ∷ examineColumn l t x n (openedNodes l t x d)
+      ∷ []
 
--- The call for column k of [a, b) in w columns, stopped at depth d. [refusals 17]
-unfoldable pub stopped : (n : ℕ) (t : Table) (a b w k d : ℕ) → Stopped
-stopped n t a b w k d =
-    let x = column a b w k in
-    stoppedBy (levels n) t x
-    (columnChecks n t a b w k (checkDepth n d ∷ []) (examineOpened (levels n) t x n d)) d
+  -- The two ranges and the count at this depth. [columns 9, 10, 11]
+  unfoldable pub stopped : Stopped
+  stopped =
+      let l = levels n in
+      let x = column a b w k in
+      answerBy Stopped.Refused (inOrder stoppedChecks)
+      (Stopped.Ranges (outer l t x d) (inner l t x d) (countAt l t x d))

@@ -1,6 +1,6 @@
 -- Each answer of asking a record, which is opened before or not. Assumes nothing.
-use mathlib.Core.Path.{_≡_, ap, _∙_}
-use mathlib.Core.List.{List, [], _∷_}
+use mathlib.Core.Path.{_≡_, refl, sym, ap, _∙_}
+use mathlib.Core.List.{List}
 use Prim.Native.Nat.{ℕ, _+_, _-_, _*_, _/_, _≤_, _<_}
 use native.Mathlib.Omega.{arith}
 use lib.IntN.{ℤ}
@@ -12,23 +12,24 @@ use Rattle.words.specs.declared.Refusal.the-variants.{BadPlace, CutShort}
 use Rattle.words.specs.declared.Opening.{Opening}
 use Rattle.words.specs.declared.Asking.{Asking}
 use Rattle.om3.specs.Series.{P}
-use Rattle.om3.specs.Checks.{Check, passes, refuses, inOrder}
-use Rattle.om3.specs.Record.{signedFrom, headerSize, hoursIn, coefficientIn, openingChecks, openedBy, openedRecord}
-use Rattle.om3.specs.Record.{viewChecks, askedBy, askedView, askedRecord}
-use Rattle.om3.proofs.Examined.{then-passes}
+use Rattle.om3.specs.Checks.{Check, passes, refuses, inOrder, answerBy}
+use Rattle.om3.specs.Bytes.{signedFrom}
+use Rattle.om3.specs.Record.{headerSize, hoursIn, coefficientIn}
+use Rattle.om3.specs.RecordCalls.{openingChecks, opening, askingView, asking}
+use Rattle.om3.proofs.RecordsOpened.{asking-opened, asking-refused}
 use Rattle.packing.specs.Packing.{coefficientFrom}
 
 module _ (r : List ℕ) (places p : ℕ) where
-  pub past-places : places ≤ p → Asking.Refused BadPlace ≡ askedView r places p
-  unfolding askedView inOrder
+  pub past-places : places ≤ p → Asking.Refused BadPlace ≡ askingView r places p
+  unfolding askingView inOrder
   past-places h = rw (le-leb places p h)
 
   module _ (below : p < places) where
-    not-reached : length r < headerSize + 3 * p + 3 → Asking.Refused CutShort ≡ askedView r places p
-    unfolding askedView inOrder
+    not-reached : length r < headerSize + 3 * p + 3 → Asking.Refused CutShort ≡ askingView r places p
+    unfolding askingView inOrder
     not-reached h = rw (lt-leb places p below, lt-ltb (length r) (headerSize + 3 * p + 3) h)
 
-    pub no-header : length r < headerSize → Asking.Refused CutShort ≡ askedView r places p
+    pub no-header : length r < headerSize → Asking.Refused CutShort ≡ askingView r places p
     no-header h = not-reached (omega arith)
 
     -- What comes after the header.
@@ -42,7 +43,7 @@ module _ (r : List ℕ) (places p : ℕ) where
       packed-length : length packed ≡ length r - headerSize
       packed-length = ap length packed-tail ∙ length-drop headerSize r
 
-      pub few-packed : length packed / 3 ≤ p → Asking.Refused CutShort ≡ askedView r places p
+      pub few-packed : length packed / 3 ≤ p → Asking.Refused CutShort ≡ askingView r places p
       few-packed h = not-reached (omega (arith, packed-length))
 
       spelled : coefficientFrom packed p ≡ coefficientIn r p
@@ -51,31 +52,35 @@ module _ (r : List ℕ) (places p : ℕ) where
           ∙ ap (λ (bs : List ℕ). signedFrom (take 3 bs)) (drop-drop (3 * p) headerSize r)
 
       pub coefficient-there : p < length packed / 3 → (z : ℤ) → z ≡ coefficientFrom packed p
-          → Asking.Coefficient z ≡ askedView r places p
-      unfolding askedView inOrder
+          → Asking.Coefficient z ≡ askingView r places p
+      unfolding askingView inOrder
       coefficient-there h z e =
           let reached : headerSize + 3 * p + 3 ≤ length r = omega (arith, packed-length) in
           rw (lt-leb places p below, le-ltb (length r) (headerSize + 3 * p + 3) reached, e, spelled)
 
 -- Opened, and then asked.
 module _ (r : List ℕ) (p : ℕ) where
-  abbrev both : Check → Asking
-  both c = askedBy (inOrder (c ∷ viewChecks r (P (hoursIn r)) p ∷ [])) r p
+  -- What the answer of opening says of its checks.
+  abbrev told : Check → Opening
+  told c = answerBy Opening.Refused c (Opening.Record (hoursIn r) (P (hoursIn r)))
 
-  pub opened-asked : (n places : ℕ) → Opening.Record n places ≡ openedRecord r → askedView r places p ≡ askedRecord r p
-  unfolding askedView askedRecord openedRecord inOrder
-  opened-asked n places e = by (openingChecks r) e
+  pub opened-asked : (n places : ℕ) → Opening.Record n places ≡ opening r → askingView r places p ≡ asking r p
+  unfolding opening
+  opened-asked n places e = by (inOrder (openingChecks r)) refl e
     where
-      by : (c : Check) → Opening.Record n places ≡ openedBy c r → askedBy (viewChecks r places p) r p ≡ both c
-      by passes h =
+      by : (c : Check) → inOrder (openingChecks r) ≡ c → Opening.Record n places ≡ told c
+          → askingView r places p ≡ asking r p
+      by passes opens h =
           let same : places ≡ P (hoursIn r) = cc in
-          rw (same, then-passes (viewChecks r (P (hoursIn r)) p))
-      by (refuses why) h = cc
+          ap (λ (m : ℕ). askingView r m p) same ∙ sym (asking-opened r p opens)
+      by (refuses why) opens h = cc
 
-  pub refused-asked : (why : Refusal) → Opening.Refused why ≡ openedRecord r → Asking.Refused why ≡ askedRecord r p
-  unfolding askedRecord openedRecord inOrder
-  refused-asked why e = by (openingChecks r) e
+  pub refused-asked : (why : Refusal) → Opening.Refused why ≡ opening r → Asking.Refused why ≡ asking r p
+  unfolding opening
+  refused-asked why e = by (inOrder (openingChecks r)) refl e
     where
-      by : (c : Check) → Opening.Refused why ≡ openedBy c r → Asking.Refused why ≡ both c
-      by passes h = cc
-      by (refuses other) h = cc
+      by : (c : Check) → inOrder (openingChecks r) ≡ c → Opening.Refused why ≡ told c → Asking.Refused why ≡ asking r p
+      by passes opens h = cc
+      by (refuses other) opens h =
+          let same : why ≡ other = cc in
+          ap Asking.Refused same ∙ sym (asking-refused r p other opens)

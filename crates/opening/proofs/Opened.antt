@@ -1,10 +1,10 @@
 -- Each answer of opening a record, its checks in their order. Assumes nothing.
 use mathlib.Core.Path.{_≡_, _∙_}
-use mathlib.Core.Bool.{true, false, not}
+use mathlib.Core.Bool.{true, false}
 use mathlib.Core.List.{List, [], _∷_}
 use Prim.Native.Nat.{ℕ, _+_, _≤_, _<_}
 use native.Mathlib.Omega.{arith}
-use lib.Dec.{ltb, eqb}
+use lib.Dec.{ltb}
 use lib.ListN.{length, getD}
 use lib.Seq.{drop-cons}
 use borrow.Author.Tests.{lt-ltb, le-ltb, ne-eqb, eq-eqb}
@@ -15,15 +15,16 @@ use Rattle.words.specs.declared.Opening.{Opening}
 use Rattle.om3.specs.Series.{badHours, P}
 use Rattle.om3.specs.Checks.{refuses, refuseIf, inOrder}
 use Rattle.om3.specs.Refusals.{checkHours}
-use Rattle.om3.specs.Record.{numberFrom, recordLength, recordSize, headerSize, lengthIn, versionIn, hoursIn}
-use Rattle.om3.specs.Record.{openingChecks, openedRecord}
+use Rattle.om3.specs.Bytes.{numberFrom}
+use Rattle.om3.specs.Record.{recordLength, recordSize, headerSize, lengthIn, versionIn, hoursIn}
+use Rattle.om3.specs.RecordCalls.{checkLength, checkCut, checkAfter, openingChecks, opening}
 
 module _ (r : List ℕ) where
-  refused : (why : Refusal) → openingChecks r ≡ refuses why → Opening.Refused why ≡ openedRecord r
-  unfolding openedRecord
+  refused : (why : Refusal) → inOrder (openingChecks r) ≡ refuses why → Opening.Refused why ≡ opening r
+  unfolding opening
   refused why e = rw e
 
-  pub under-seven : length r < headerSize → Opening.Refused CutShort ≡ openedRecord r
+  pub under-seven : length r < headerSize → Opening.Refused CutShort ≡ opening r
   unfolding inOrder
   under-seven h = refused CutShort (rw (lt-ltb (length r) headerSize h))
 
@@ -33,7 +34,7 @@ module _ (r : List ℕ) where
       let four : 4 < length r = omega arith in
       rw (drop-cons r 4 0 four) (omega arith)
 
-  pub other-version : headerSize ≤ length r → (getD r 4 0 ≡ version → ⊥) → Opening.Refused BadVersion ≡ openedRecord r
+  pub other-version : headerSize ≤ length r → (getD r 4 0 ≡ version → ⊥) → Opening.Refused BadVersion ≡ opening r
   unfolding inOrder
   other-version h ne =
       refused BadVersion
@@ -47,17 +48,12 @@ module _ (r : List ℕ) where
 
   module _ (n : ℕ) (h : Header n) where
     -- What is left to check after it.
-    after-header : openingChecks r
-        ≡ inOrder
-        (checkHours (hoursIn r)
-        ∷ refuseIf (not (eqb (lengthIn r) (recordLength (hoursIn r)))) BadLength
-        ∷ refuseIf (ltb (length r) (4 + lengthIn r)) CutShort
-        ∷ refuseIf (ltb (4 + lengthIn r) (length r)) BytesAfter
-        ∷ [])
+    after-header : inOrder (openingChecks r)
+        ≡ inOrder (checkHours (hoursIn r) ∷ checkLength r ∷ checkCut r ∷ checkAfter r ∷ [])
     unfolding inOrder
     after-header = rw (le-ltb (length r) headerSize (h .long), version-byte (h .long), h .isVersion)
 
-    pub bad-hours : badHours n ≡ true → Opening.Refused BadHours ≡ openedRecord r
+    pub bad-hours : badHours n ≡ true → Opening.Refused BadHours ≡ opening r
     unfolding inOrder
     bad-hours b = refused BadHours (after-header ∙ rw (rw (h .hours) at b))
 
@@ -68,7 +64,7 @@ module _ (r : List ℕ) where
       pub field : x ≡ lengthIn r
 
     module _ (size x : ℕ) (s : Stated size x) where
-      pub other-length : (4 + x ≡ size → ⊥) → Opening.Refused BadLength ≡ openedRecord r
+      pub other-length : (4 + x ≡ size → ⊥) → Opening.Refused BadLength ≡ opening r
       unfolding inOrder
       other-length ne =
           let ne′ : lengthIn r ≡ recordLength (hoursIn r) → ⊥ =
@@ -78,7 +74,7 @@ module _ (r : List ℕ) where
 
       module _ (same : 4 + x ≡ size) where
         -- What is left to check after the fields.
-        after-fields : openingChecks r
+        after-fields : inOrder (openingChecks r)
             ≡ inOrder
             (refuseIf (ltb (length r) size) CutShort ∷ refuseIf (ltb size (length r)) BytesAfter ∷ [])
         unfolding inOrder
@@ -88,18 +84,18 @@ module _ (r : List ℕ) where
             let stated : 4 + lengthIn r ≡ size = omega (arith, same, s .field) in
             after-header ∙ rw (rw (h .hours) at (s .good), eq-eqb _ _ right, stated)
 
-        pub fewer-bytes : length r < size → Opening.Refused CutShort ≡ openedRecord r
+        pub fewer-bytes : length r < size → Opening.Refused CutShort ≡ opening r
         unfolding inOrder
         fewer-bytes f = refused CutShort (after-fields ∙ rw (lt-ltb (length r) size f))
 
-        pub more-bytes : size < length r → Opening.Refused BytesAfter ≡ openedRecord r
+        pub more-bytes : size < length r → Opening.Refused BytesAfter ≡ opening r
         unfolding inOrder
         more-bytes f =
             refused BytesAfter
             (after-fields ∙ rw (le-ltb (length r) size (omega arith), lt-ltb size (length r) f))
 
-        pub whole-record : length r ≡ size → (p : ℕ) → p ≡ P n → Opening.Record n p ≡ openedRecord r
-        unfolding inOrder openedRecord
+        pub whole-record : length r ≡ size → (p : ℕ) → p ≡ P n → Opening.Record n p ≡ opening r
+        unfolding inOrder opening
         whole-record f p e =
             let a = le-ltb (length r) size (omega arith) in
             let b = le-ltb size (length r) (omega arith) in

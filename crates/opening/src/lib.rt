@@ -3,12 +3,12 @@ use words::Asking;
 use words::Opening;
 use words::Refusal;
 ghost use mathlib.Core.Path.{_≡_};
-ghost use Rattle.om3.specs.Record.{openedRecord, askedView};
+ghost use Rattle.om3.specs.RecordCalls.{opening as openingOf, askingView};
 
 // Opens a record: what it says of its hours, and how many coefficients it has. Refusals in the order 8 (under 7
 // bytes), 9, 1, 10, 8 (fewer bytes than stated), 11.
 pub fn open_record(bytes: &[u8]) -> Opening
-    ensures { λ r. ⌜ r ≡ openedRecord (now (bytes .entry)) ⌝ }
+    ensures { λ r. ⌜ r ≡ openingOf (now (bytes .entry)) ⌝ }
 {
     if bytes.len() < words::HEADER_SIZE {
         return Opening::Refused(Refusal::CutShort);
@@ -37,7 +37,7 @@ pub fn open_record(bytes: &[u8]) -> Opening
 // The coefficient at a place of a record that was opened and has so many of them. Refusals in the order 13, 8; the
 // second comes for no record that opening takes.
 pub fn ask(bytes: &[u8], places: usize, place: usize) -> Asking
-    ensures { λ r. ⌜ r ≡ askedView (now (bytes .entry)) places place ⌝ }
+    ensures { λ r. ⌜ r ≡ askingView (now (bytes .entry)) places place ⌝ }
 {
     if places <= place {
         return Asking::Refused(Refusal::BadPlace);

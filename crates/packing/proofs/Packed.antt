@@ -10,7 +10,7 @@ use lib.ListN.{length, getD, take, drop, set}
 use lib.Seq.{take-all, take-suc, length-take-le}
 use Rattle.om3.specs.Lists.{upFrom}
 use Rattle.om3.specs.Calls.{filled}
-use Rattle.om3.specs.Record.{bytesOf, bytesAt, bitsOf, threeBytes}
+use Rattle.om3.specs.Bytes.{bytesOf, bytesAt, bitsOf, threeBytes}
 use Rattle.om3.proofs.Lists.{up-append, map-up-length}
 use Rattle.om3.proofs.Filled.{filled-length, filled-part, filled-set, filled-all}
 use Rattle.om3.proofs.ThreeBytes.{three-size, threes-size}

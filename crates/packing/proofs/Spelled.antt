@@ -8,7 +8,7 @@ use lib.Dec.{lit<}
 use lib.ListN.{length, getD, take, set, length-append}
 use lib.Seq.{take-all, take-length, take-suc, set-at, length-take-le, append-snoc}
 use Rattle.om3.proofs.Bytes.{bytes-length}
-use Rattle.om3.specs.Record.{bytesOf, numberFrom}
+use Rattle.om3.specs.Bytes.{bytesOf, numberFrom}
 
 -- A byte more multiplies what was spelled before by 256.
 number-snoc : (bs : List ℕ) (b : ℕ) → numberFrom (bs ++ (b ∷ [])) ≡ numberFrom bs * 256 + b

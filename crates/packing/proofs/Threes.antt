@@ -9,7 +9,7 @@ use borrow.Author.Tests.{le-ltb}
 use Rattle.signed.proofs.Sums.{add-parts}
 use Rattle.signed.proofs.Widths.{natAbs-parts}
 use Rattle.signed.proofs.Rules.{signed}
-use Rattle.om3.specs.Record.{InThree, bitsOf, signedOf}
+use Rattle.om3.specs.Bytes.{InThree, bitsOf, signedOf}
 
 pub bits-below : (z : ℤ) → InThree z → ltZ z (pos 0) ≡ true → natAbs (z +ℤ pos (2 ^ 24)) ≡ bitsOf z
 bits-below (pos m) h e = absurd (omega signed)

@@ -9,7 +9,7 @@ use Prim.Native.Nat.{ℕ, _*_, _/_, _<_}
 use lib.IntN.{ℤ, pos}
 use lib.ListN.{length, getD}
 use Rattle.om3.specs.Lists.{upFrom}
-use Rattle.om3.specs.Record.{InThree, bytesAt, signedFrom}
+use Rattle.om3.specs.Bytes.{InThree, bytesAt, signedFrom}
 
 abbrev pub EachInThree : List ℤ → Type 0
 EachInThree cs = (p : ℕ) → p < length cs → InThree (getD cs p (pos 0))

@@ -3,7 +3,7 @@ ghost use mathlib.Core.Path.{_≡_};
 ghost use mathlib.Core.List.{flatMap};
 ghost use Prim.Native.Nat.{_+_, _*_, _/_, _^_, _≤_, _<_};
 ghost use lib.ListN.{length};
-ghost use Rattle.om3.specs.Record.{bytesOf, numberFrom, InThree, bitsOf, signedOf, threeBytes};
+ghost use Rattle.om3.specs.Bytes.{bytesOf, numberFrom, InThree, bitsOf, signedOf, threeBytes};
 ghost use Rattle.packing.specs.Packing.{EachInThree, coefficientFrom, unpacked};
 
 // 2^24, and half of it, from which on 24 bits are a negative number.

@@ -11,13 +11,15 @@ use Rattle.words.specs.declared.Opening.{Opening}
 use Rattle.words.specs.declared.Unpacking.{Unpacking}
 use Rattle.om3.specs.Series.{P}
 use Rattle.om3.specs.Table.{lent}
-use Rattle.om3.specs.Checks.{Check, passes, refuses, inOrder}
+use Rattle.om3.specs.Checks.{Check, passes, refuses, inOrder, answerBy}
 use Rattle.om3.specs.Calls.{writtenBy}
-use Rattle.om3.specs.Record.{signedFrom, bytesAt, headerSize, hoursIn, coefficientIn, tableIn}
-use Rattle.om3.specs.Record.{openingChecks, readingChecks, unpackingBy, openedBy, openedRecord}
+use Rattle.om3.specs.Bytes.{signedFrom, bytesAt}
+use Rattle.om3.specs.Record.{headerSize, hoursIn, coefficientIn, tableIn}
+use Rattle.om3.specs.RecordCalls.{openingChecks, unpackingChecks, opening}
 use Rattle.om3.proofs.Lists.{map-up-length}
 use Rattle.om3.proofs.Making.{good-some}
 use Rattle.om3.proofs.RecordsOpened.{opens-formed, asked-unpacked}
+use Rattle.om3.proofs.RecordsTaken.{unpacking-parted}
 use Rattle.packing.specs.Packing.{coefficientFrom, unpacked}
 use Rattle.reading.specs.Reading.{PackedTable, partsChecks, PartsRead, RecordRead}
 use Rattle.reading.proofs.Examining.{unpacked-length, unpacked-at}
@@ -33,29 +35,34 @@ part-within l p w b h room =
 module _ (r : List ℕ) where
   -- The record is opened: it has n hours and p places.
   pub record Opened (n p : ℕ) : Type 0 where
-    pub opens : openingChecks r ≡ passes
+    pub opens : inOrder (openingChecks r) ≡ passes
     pub hours : n ≡ hoursIn r
     pub places : p ≡ P (hoursIn r)
 
-  pub opened : (n p : ℕ) → Opening.Record n p ≡ openedRecord r → Opened n p
-  unfolding openedRecord
-  opened n p e = by (openingChecks r) refl e
+  abbrev told : Check → Opening
+  told c = answerBy Opening.Refused c (Opening.Record (hoursIn r) (P (hoursIn r)))
+
+  pub opened : (n p : ℕ) → Opening.Record n p ≡ opening r → Opened n p
+  unfolding opening
+  opened n p e = by (inOrder (openingChecks r)) refl e
     where
-      by : (c : Check) → openingChecks r ≡ c → Opening.Record n p ≡ openedBy c r → Opened n p
+      by : (c : Check) → inOrder (openingChecks r) ≡ c → Opening.Record n p ≡ told c → Opened n p
       by passes o h = record { opens = o; hours = cc; places = cc }
       by (refuses why) o h = let z : _≡_ {A = ℕ} 0 1 = cc in absurd (omega arith)
 
-  pub refused-read : (why : Refusal) → Opening.Refused why ≡ openedRecord r → (cs : List ℤ) (ks : List ℕ)
+  pub refused-read : (why : Refusal) → Opening.Refused why ≡ opening r → (cs : List ℤ) (ks : List ℕ)
       → RecordRead r cs ks cs ks (Unpacking.Refused why)
-  unfolding openedRecord inOrder
-  refused-read why e cs ks = by (openingChecks r) refl e
+  unfolding opening
+  refused-read why e cs ks = by (inOrder (openingChecks r)) refl e
     where
-      by : (c : Check) → openingChecks r ≡ c → Opening.Refused why ≡ openedBy c r
+      by : (c : Check) → inOrder (openingChecks r) ≡ c → Opening.Refused why ≡ told c
           → RecordRead r cs ks cs ks (Unpacking.Refused why)
       by passes o h = let z : _≡_ {A = ℕ} 0 1 = cc in absurd (omega arith)
       by (refuses other) o h =
           let same : why ≡ other = cc in
-          record { answer = rw (o, same); coefficients = rw o; codes = rw o }
+          let checks : inOrder (unpackingChecks r (lent cs ks)) ≡ refuses why =
+          unpacking-parted r (lent cs ks) ∙ rw (o, same) in
+          record { answer = rw checks; coefficients = rw checks; codes = rw checks }
 
   module _ (n p : ℕ) (o : Opened n p) where
     abbrev after : ℕ
@@ -117,15 +124,16 @@ module _ (r : List ℕ) where
 
     -- So the checks that are left are those of the parts.
     module _ (cs : List ℤ) (ks : List ℕ) where
-      checks-left : partsChecks n packed codes cs ks ≡ readingChecks r (lent cs ks)
-      unfolding inOrder
-      checks-left = rw (o .opens, coefficients-in, codes-in, o .hours)
+      checks-left : partsChecks n packed codes cs ks ≡ inOrder (unpackingChecks r (lent cs ks))
+      checks-left = rw (unpacking-parted r (lent cs ks), o .opens, coefficients-in, codes-in, o .hours)
 
       pub parts-read : {cs′ : List ℤ} {ks′ : List ℕ} {u : Unpacking} → PartsRead n packed codes cs ks cs′ ks′ u
           → RecordRead r cs ks cs′ ks′ u
       parts-read x =
           record {
-            answer = x .answer ∙ ap₂ unpackingBy checks-left (o .hours);
+            answer =
+                x .answer
+                ∙ ap₂ (λ (c : Check) (m : ℕ). answerBy Unpacking.Refused c (Unpacking.Hours m)) checks-left (o .hours);
             coefficients =
                 x .coefficients ∙ ap₂ (λ (c : Check) (new : List ℤ). writtenBy c new cs) checks-left coefficients-in;
             codes = x .codes ∙ ap₂ (λ (c : Check) (new : List ℕ). writtenBy c new ks) checks-left codes-in;

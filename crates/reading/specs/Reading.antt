@@ -17,10 +17,11 @@ use Rattle.words.specs.declared.Range.{Range}
 use Rattle.words.specs.declared.Unpacking.{Unpacking}
 use Rattle.om3.specs.Series.{P}
 use Rattle.om3.specs.Table.{lent}
-use Rattle.om3.specs.Checks.{Check, inOrder}
+use Rattle.om3.specs.Checks.{Check, inOrder, answerBy}
 use Rattle.om3.specs.Refusals.{tableShort, checkRoom, examineTable}
 use Rattle.om3.specs.Calls.{writtenBy}
-use Rattle.om3.specs.Record.{hoursIn, tableIn, readingChecks, unpackingBy}
+use Rattle.om3.specs.Record.{tableIn}
+use Rattle.om3.specs.RecordCalls.{unpackingChecks, unpacking}
 use Rattle.node.specs.declared.Halves.{Halves}
 use Rattle.node.specs.Steps.{halvesOf}
 use Rattle.turning.specs.declared.Verdict.{Verdict}
@@ -50,7 +51,7 @@ partsChecks n bs qs cs ks =
 -- These parts become a table in the lent coefficients cs and codes ks.
 pub record PartsRead (n : ℕ) (bs qs : List ℕ) (cs : List ℤ) (ks : List ℕ) (cs′ : List ℤ) (ks′ : List ℕ)
     (r : Unpacking) : Type 0 where
-  pub answer : r ≡ unpackingBy (partsChecks n bs qs cs ks) n
+  pub answer : r ≡ answerBy Unpacking.Refused (partsChecks n bs qs cs ks) (Unpacking.Hours n)
   pub coefficients : cs′ ≡ writtenBy (partsChecks n bs qs cs ks) (unpacked bs) cs
   pub codes : ks′ ≡ writtenBy (partsChecks n bs qs cs ks) qs ks
 
@@ -58,6 +59,6 @@ pub record PartsRead (n : ℕ) (bs qs : List ℕ) (cs : List ℤ) (ks : List ℕ
 -- [refusals 14, 15, 16, 19] [statements 1]
 pub record RecordRead (r : List ℕ) (cs : List ℤ) (ks : List ℕ) (cs′ : List ℤ) (ks′ : List ℕ) (u : Unpacking)
     : Type 0 where
-  pub answer : u ≡ unpackingBy (readingChecks r (lent cs ks)) (hoursIn r)
-  pub coefficients : cs′ ≡ writtenBy (readingChecks r (lent cs ks)) (tableIn r .coefficients) cs
-  pub codes : ks′ ≡ writtenBy (readingChecks r (lent cs ks)) (tableIn r .codes) ks
+  pub answer : u ≡ unpacking r (lent cs ks)
+  pub coefficients : cs′ ≡ writtenBy (inOrder (unpackingChecks r (lent cs ks))) (tableIn r .coefficients) cs
+  pub codes : ks′ ≡ writtenBy (inOrder (unpackingChecks r (lent cs ks))) (tableIn r .codes) ks

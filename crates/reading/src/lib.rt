@@ -33,47 +33,47 @@ fn halves_at(packed: &[u8], i: NodeId, range: Range) -> Halves
     node::half_ranges(range, low_detail, high_detail)
 }
 
-// Examines node i, which covers four hours from t on and has this range, and then its two pairs. Its details and their
+// Examines node i, which covers four hours from h on and has this range, and then its two pairs. Its details and their
 // codes are there.
 fn examine_four(
     n: usize,
     packed: &[u8],
     codes: &[u8],
     i: NodeId,
-    t: Timestamp,
+    h: Timestamp,
     range: Range,
 ) -> Verdict
     requires { ⌜ Readings range ⌝ }
     requires { ⌜ 2 * i .0 + 2 ≤ length (now packed) / 3 ⌝ }
-    requires { ⌜ t .0 + 4 ≤ 2 * length (now codes) ⌝ }
-    ensures { λ r. ⌜ FourExamined n (unpacked (now (packed .entry))) (now (codes .entry)) i (t .0) range r ⌝ }
+    requires { ⌜ h .0 + 4 ≤ 2 * length (now codes) ⌝ }
+    ensures { λ r. ⌜ FourExamined n (unpacked (now (packed .entry))) (now (codes .entry)) i (h .0) range r ⌝ }
 {
     let left_number = 2 * i.0;
     let halves = halves_at(packed, i, range);
     let Halves::Sound { left, right } = halves else {
         return Verdict::Unsound(i);
     };
-    turning::examine_pairs(n, codes, NodeId(left_number), t, left, right)
+    turning::examine_pairs(n, codes, NodeId(left_number), h, left, right)
 }
 
-// Examines node i, which covers `hours` hours from t on, at least eight, and has this range, and then all nodes below
+// Examines node i, which covers `hours` hours from h on, at least eight, and has this range, and then all nodes below
 // it, whose details and codes are there: each before its halves, left before right. [forms 8]
 fn examine_below(
     n: usize,
     packed: &[u8],
     codes: &[u8],
     i: NodeId,
-    t: Timestamp,
+    h: Timestamp,
     hours: usize,
     range: Range,
 ) -> Verdict
     requires { ⌜ 8 ≤ hours ⌝ }
     requires { ⌜ Readings range ⌝ }
     requires { ⌜ (i .0 + 1) * (hours / 2) ≤ length (now packed) / 3 ⌝ }
-    requires { ⌜ t .0 + hours ≤ 2 * length (now codes) ⌝ }
-    ensures { λ r. ⌜ Examined n (unpacked (now (packed .entry))) (now (codes .entry)) i (t .0) hours range r ⌝ }
+    requires { ⌜ h .0 + hours ≤ 2 * length (now codes) ⌝ }
+    ensures { λ r. ⌜ Examined n (unpacked (now (packed .entry))) (now (codes .entry)) i (h .0) hours range r ⌝ }
 {
-    let at = t.0;
+    let at = h.0;
     let left_number = 2 * i.0;
     let right_number = left_number + 1;
     let halves = halves_at(packed, i, range);
@@ -84,13 +84,13 @@ fn examine_below(
     let middle = at + half;
     let next = Timestamp(middle);
     if hours < 16 {
-        let verdict = examine_four(n, packed, codes, NodeId(left_number), t, left);
+        let verdict = examine_four(n, packed, codes, NodeId(left_number), h, left);
         if let Verdict::Unsound(k) = verdict {
             return Verdict::Unsound(k);
         }
         return examine_four(n, packed, codes, NodeId(right_number), next, right);
     }
-    let first = examine_below(n, packed, codes, NodeId(left_number), t, half, left);
+    let first = examine_below(n, packed, codes, NodeId(left_number), h, half, left);
     if let Verdict::Unsound(k) = first {
         return Verdict::Unsound(k);
     }

@@ -9,9 +9,8 @@ use Prim.Native.Nat.{ℕ}
 use lib.IntN.{ℤ}
 use lib.ListN.{length}
 use Rattle.om3.specs.Table.{lent}
-use Rattle.om3.specs.Refusals.{makingChecks, turningBackChecks}
-use Rattle.om3.specs.Calls.{takingBy}
-use Rattle.om3.specs.Record.{hoursIn, writingChecks, readingChecks, writingBy, unpackingBy}
+use Rattle.om3.specs.Calls.{making, turningBack}
+use Rattle.om3.specs.RecordCalls.{writing, unpacking}
 use Rattle.making.specs.Making.{Made}
 use Rattle.turning.specs.Turning.{TurnedBack}
 use Rattle.writing.specs.Writing.{RecordWritten}
@@ -23,18 +22,18 @@ use Rattle.told.specs.Tables.{takingTold}
 use Rattle.told.specs.Records.{writingTold, unpackingTold}
 
 pub record MakeTold (n : ℕ) (s cs : List ℤ) (ks : List ℕ) (cs′ : List ℤ) (ks′ : List ℕ) (r : Told) : Type 0 where
-  pub made : Made n s cs ks cs′ ks′ (takingBy (makingChecks n s (lent cs ks)))
-  pub answer : r ≡ takingTold (takingBy (makingChecks n s (lent cs ks)))
+  pub made : Made n s cs ks cs′ ks′ (making n s (lent cs ks))
+  pub answer : r ≡ takingTold (making n s (lent cs ks))
 
 pub record TurnBackTold (n : ℕ) (cs : List ℤ) (ks : List ℕ) (out out′ : List ℤ) (r : Told) : Type 0 where
-  pub turned : TurnedBack n cs ks out out′ (takingBy (turningBackChecks n (lent cs ks) (length out)))
-  pub answer : r ≡ takingTold (takingBy (turningBackChecks n (lent cs ks) (length out)))
+  pub turned : TurnedBack n cs ks out out′ (turningBack n (lent cs ks) (length out))
+  pub answer : r ≡ takingTold (turningBack n (lent cs ks) (length out))
 
 pub record WriteTold (n : ℕ) (cs : List ℤ) (ks out out′ : List ℕ) (r : ToldBytes) : Type 0 where
-  pub written : RecordWritten n cs ks out out′ (writingBy (writingChecks n (lent cs ks) (length out)) n)
-  pub answer : r ≡ writingTold (writingBy (writingChecks n (lent cs ks) (length out)) n)
+  pub written : RecordWritten n cs ks out out′ (writing n (lent cs ks) (length out))
+  pub answer : r ≡ writingTold (writing n (lent cs ks) (length out))
 
 pub record ReadTold (bs : List ℕ) (cs : List ℤ) (ks : List ℕ) (cs′ : List ℤ) (ks′ : List ℕ) (r : ToldHours)
     : Type 0 where
-  pub read : RecordRead bs cs ks cs′ ks′ (unpackingBy (readingChecks bs (lent cs ks)) (hoursIn bs))
-  pub answer : r ≡ unpackingTold (unpackingBy (readingChecks bs (lent cs ks)) (hoursIn bs))
+  pub read : RecordRead bs cs ks cs′ ks′ (unpacking bs (lent cs ks))
+  pub answer : r ≡ unpackingTold (unpacking bs (lent cs ks))

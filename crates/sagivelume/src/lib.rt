@@ -16,7 +16,7 @@ ghost use mathlib.Core.Path.{_≡_};
 ghost use lib.ListN.{length};
 ghost use Rattle.om3.specs.Table.{lent};
 ghost use Rattle.om3.specs.Level.{levelStretch};
-ghost use Rattle.om3.specs.Record.{openedRecord, askedView};
+ghost use Rattle.om3.specs.RecordCalls.{opening as openingOf, askingView};
 ghost use Rattle.om3.specs.Columns.{edges};
 ghost use Rattle.om3.specs.Stopped.{stopped};
 ghost use Rattle.om3.specs.Finished.{finished};
@@ -93,7 +93,7 @@ pub extern "C" fn sagivelume_read_record(
 // Opens a record without unpacking it. Refusals 8, 9, 1, 10, 8, 11.
 #[no_mangle]
 pub extern "C" fn sagivelume_open_record(bytes: &[u8]) -> ToldRecord
-    ensures { λ r. ⌜ r ≡ openingTold (openedRecord (now (bytes .entry))) ⌝ }
+    ensures { λ r. ⌜ r ≡ openingTold (openingOf (now (bytes .entry))) ⌝ }
 {
     told::records::of_opening(opening::open_record(bytes))
 }
@@ -101,7 +101,7 @@ pub extern "C" fn sagivelume_open_record(bytes: &[u8]) -> ToldRecord
 // Asks an opened record, which has so many places, for the coefficient at one of them. Refusals 13, 8.
 #[no_mangle]
 pub extern "C" fn sagivelume_ask(bytes: &[u8], places: usize, place: usize) -> ToldCoefficient
-    ensures { λ r. ⌜ r ≡ askingTold (askedView (now (bytes .entry)) places place) ⌝ }
+    ensures { λ r. ⌜ r ≡ askingTold (askingView (now (bytes .entry)) places place) ⌝ }
 {
     told::records::of_asking(opening::ask(bytes, places, place))
 }

@@ -10,11 +10,13 @@ use Rattle.words.specs.declared.{Taking.Taking, Writing.Writing, Unpacking.Unpa
 use Rattle.words.specs.declared.{Finished.Finished, HourLine.HourLine, Refusal.Refusal}
 use Rattle.om3.specs.{Lists.upFrom, Series.Series, Series.levels, Series.P, Series.hoursFrom}
 use Rattle.om3.specs.{Table.Table, Table.tableOf, Table.HasTable, Table.lent}
-use Rattle.om3.specs.{Refusals.tableShort, Calls.filled, Checks.passes, Checks.refuses}
-use Rattle.om3.specs.Record.{Bytes, coefficientIn, openingChecks, askedView, askedRecord}
-use Rattle.om3.specs.{Columns.column, Columns.columnHours, Finished.finished, Joined.joined, Looked.lookThrough}
-use Rattle.om3.specs.{Drawn.finishedCount, Printed.gramsOf, Printed.printingChecks}
+use Rattle.om3.specs.{Refusals.tableShort, Calls.filled, Checks.passes, Checks.refuses, Checks.inOrder}
+use Rattle.om3.specs.Bytes.{Bytes}
+use Rattle.om3.specs.Record.{coefficientIn}
+use Rattle.om3.specs.RecordCalls.{openingChecks, askingView, asking}
 use Rattle.om3.specs.Days.{day, changeOf, dayChange}
+use Rattle.om3.specs.{Columns.column, Columns.columnHours, Finished.finished, Joined.joined, Looked.lookThrough}
+use Rattle.om3.specs.{Finished.count, Printed.gramsOf, Printed.printingChecks}
 use Rattle.om3.proofs as om3
 use Rattle.making.specs.Making.{Made}
 use Rattle.turning.specs.Turning.{TurnedBack}
@@ -49,20 +51,21 @@ module _ (r : List ℕ) (cs : List ℤ) (ks : List ℕ) (cs′ : List ℤ) (ks�
   write-after-read = theorems.Records.write-after-read r cs ks cs′ ks′ n done
 
   -- A coefficient asked for is the one that was unpacked.
-  asked-is-unpacked : (p : ℕ) → p < P n → askedRecord r p ≡ Asking.Coefficient (getD cs′ p (pos 0))
+  asked-is-unpacked : (p : ℕ) → p < P n → asking r p ≡ Asking.Coefficient (getD cs′ p (pos 0))
   asked-is-unpacked = theorems.Records.asked-read r cs ks cs′ ks′ n done
 
 -- Asking the view that `open` gives of bytes that opening takes answers what the record answers, which for each place
 -- of the view is the coefficient there; of other bytes it answers 13.
 module _ (bytes : RefT (List ℕ)) (v : View) (opens : v ≡ viewOf bytes) (p : ℕ) (u : Asking)
-    (asks : u ≡ askedView (now (v .bytes)) (v .places) p) where
-  view-answers : openingChecks (now bytes) ≡ passes → u ≡ askedRecord (now bytes) p
+    (asks : u ≡ askingView (now (v .bytes)) (v .places) p) where
+  view-answers : inOrder (openingChecks (now bytes)) ≡ passes → u ≡ asking (now bytes) p
   view-answers = theorems.Views.view-answers bytes v opens p u asks
 
   view-coefficient : p < v .places → u ≡ Asking.Coefficient (coefficientIn (now bytes) p)
   view-coefficient = theorems.Views.view-coefficient bytes v opens p u asks
 
-  view-refuses : (why : Refusal) → openingChecks (now bytes) ≡ refuses why → u ≡ Asking.Refused Refusal.BadPlace
+  view-refuses : (why : Refusal) → inOrder (openingChecks (now bytes)) ≡ refuses why
+      → u ≡ Asking.Refused Refusal.BadPlace
   view-refuses = theorems.Views.view-refuses bytes v opens p u asks
 
 -- The columns of a window hold its hours, each once and in order.
@@ -92,12 +95,12 @@ printer = theorems.Printer.prints-pieces
 
 -- The hours of a text that is taken are a series; each column that is printed is answered, by the answer that a look
 -- through its hours gives, with the defined count.
-module _ (a b w : ℕ) (hours : List HourLine) (ok : printingChecks a b w hours ≡ passes) where
+module _ (a b w : ℕ) (hours : List HourLine) (ok : inOrder (printingChecks a b w hours) ≡ passes) where
   printed-series : Series (length hours) (map gramsOf hours)
   printed-series = om3.PrintedColumns.text-series a b w hours ok
 
   printed-columns : (k : ℕ) → k < w
       → (let n = length hours in let s = map gramsOf hours in
       let t = tableOf (levels n) n s in let x = column a b w k in
-      finished n t a b w k ≡ Finished.Answered (lookThrough n s (columnHours x)) (finishedCount n t x))
+      finished n t a b w k ≡ Finished.Answered (lookThrough n s (columnHours x)) (count (levels n) t x))
   printed-columns = om3.PrintedColumns.columns-answered a b w hours ok

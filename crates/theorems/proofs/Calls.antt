@@ -14,15 +14,16 @@ use Rattle.words.specs.declared.Taking.{Taking}
 use Rattle.om3.specs.Series.{Holds, Series, levels, P}
 use Rattle.om3.specs.Table.{Table, coefficient, codeOfPlace, tableOf, HasTable, lent}
 use Rattle.om3.specs.Down.{turnedBack}
-use Rattle.om3.specs.Checks.{passes}
+use Rattle.om3.specs.Checks.{passes, inOrder}
 use Rattle.om3.specs.Sound.{soundTable}
-use Rattle.om3.specs.Refusals.{tableShort, TableLent, Enough, makingChecks, turningBackChecks}
-use Rattle.om3.specs.Calls.{filled}
+use Rattle.om3.specs.Refusals.{tableShort}
+use Rattle.om3.specs.Calls.{makingChecks, turningBackChecks, filled}
+use Rattle.sizes.specs.Lent.{TableLent, Enough}
 use Rattle.om3.proofs.Filled.{filled-first, filled-room}
 use Rattle.om3.proofs.Lists.{map-up-length, take-room}
 use Rattle.om3.proofs.Examined.{examine-sound}
-use Rattle.om3.proofs.Lent.{table-room}
-use Rattle.om3.proofs.TableChecks.{decided, passed}
+use Rattle.sizes.proofs.Lent.{table-room}
+use Rattle.sizes.proofs.TableChecks.{decided, passed}
 use Rattle.om3.proofs.TurnedBack.{turned-length}
 use Rattle.om3.proofs.Demand2 as demand2
 use Rattle.om3.proofs.Making.{good-some, making-series}
@@ -39,7 +40,7 @@ module _ (n : ℕ) (cs : List ℤ) (ks : List ℕ) (out : List ℤ) where
     abbrev few : (1 ≤ n) × (n ≤ largestHours)
     few = good-some n (room .table .good)
 
-    sound-passes : soundTable (levels n) n T ≡ true → turningBackChecks n T (length out) ≡ passes
+    sound-passes : soundTable (levels n) n T ≡ true → inOrder (turningBackChecks n T (length out)) ≡ passes
     sound-passes s = decided n cs ks (length out) n room ∙ examine-sound (levels n) n T .1 s
 
     module _ (out′ : List ℤ) (r : Taking) (done : TurnedBack n cs ks out out′ r) where
@@ -83,7 +84,7 @@ module _ (n : ℕ) where
 
   -- Turning back after making gives each reading and each gap at its own hour.
   module _ (s cs cs′ : List ℤ) (ks ks′ : List ℕ) (made : Made n s cs ks cs′ ks′ Taking.Taken) where
-    made-passes : makingChecks n s (lent cs ks) ≡ passes
+    made-passes : inOrder (makingChecks n s (lent cs ks)) ≡ passes
     made-passes = taken-passes _ (made .answer)
 
     abbrev first : List ℤ
@@ -125,7 +126,7 @@ module _ (n : ℕ) where
     lent-holds : Holds n s
     lent-holds k b = rw (getD-take n s k gap b) at (series .holds k b)
 
-    make-passes : makingChecks n s (lent cs ks) ≡ passes
+    make-passes : inOrder (makingChecks n s (lent cs ks)) ≡ passes
     make-passes =
         let good = good-hours n (series .some) (series .most) in
         let wide = le-ltb (length s) n (take-room n s (series .size)) in
@@ -145,7 +146,7 @@ module _ (n : ℕ) where
 
   -- Making what was turned back gives the same table.
   module _ (cs : List ℤ) (ks : List ℕ) (out out′ : List ℤ) (done : TurnedBack n cs ks out out′ Taking.Taken) where
-    turned-passes : turningBackChecks n (lent cs ks) (length out) ≡ passes
+    turned-passes : inOrder (turningBackChecks n (lent cs ks) (length out)) ≡ passes
     turned-passes = taken-passes _ (done .answer)
 
     abbrev room : Enough n cs ks (length out) n
@@ -183,7 +184,7 @@ module _ (n : ℕ) where
         rw e (again-series .holds k h)
 
     module _ (cs₁ : List ℤ) (ks₁ : List ℕ) (room₁ : tableShort n (lent cs₁ ks₁) ≡ false) where
-      made-again : makingChecks n out′ (lent cs₁ ks₁) ≡ passes
+      made-again : inOrder (makingChecks n out′ (lent cs₁ ks₁)) ≡ passes
       made-again =
           let size : n ≤ length out′ = rw written (filled-room again out n (turned-length l (lent cs ks) n)) in
           making-decided n (room .table .good) out′ (lent cs₁ ks₁)

@@ -1,23 +1,33 @@
 -- What is proved of the definitions by themselves: what P is, which nodes are examined and what the examination of a
--- table says, how three bytes hold a number and a record a table. Assumes nothing.
+-- table says, how three bytes hold a number and a record a table, what a column without an hour has, and what a look
+-- through hours gives. Assumes nothing.
 use mathlib.Core.Path.{_≡_}
 use mathlib.Core.Bool.{Bool, true, false}
-use mathlib.Core.List.{List}
+use mathlib.Core.List.{List, [], _∷_, map, foldr}
 use mathlib.Core.Logic.{_↔_}
 use Prim.Native.Nat.{ℕ, _/_, _^_, _≤_, _<_}
 use lib.IntN.{ℤ}
 use lib.ListN.{length, take}
 use Rattle.words.specs.Constants.{largestHours}
+use Rattle.words.specs.declared.Timestamp.{Timestamp}
+use Rattle.words.specs.declared.Range.{Range}
+use Rattle.words.specs.declared.Answer.{Answer}
+use Rattle.words.specs.declared.Column.{Column}
 use Rattle.om3.specs.Lists.{every}
 use Rattle.om3.specs.Series.{Series, levels, P}
 use Rattle.om3.specs.Nodes.{Node, InTree}
 use Rattle.om3.specs.Table.{Table, tableOf, HasTable}
 use Rattle.om3.specs.Down.{turnedBack}
-use Rattle.om3.specs.Checks.{passes}
+use Rattle.om3.specs.Checks.{passes, inOrder}
 use Rattle.om3.specs.Sound.{tableNodes, soundTable}
 use Rattle.om3.specs.Refusals.{tableShort, examineTable}
-use Rattle.om3.specs.Record.{Bytes, InThree, threeBytes, signedFrom, recordSize, recordOf}
-use Rattle.om3.specs.Record.{hoursIn, tableIn, openingChecks, Openable}
+use Rattle.om3.specs.Bytes.{Bytes, InThree, threeBytes, signedFrom}
+use Rattle.om3.specs.Record.{recordSize, recordOf, hoursIn, tableIn}
+use Rattle.om3.specs.RecordCalls.{openingChecks, Openable, askingView, asking}
+use Rattle.om3.specs.Stopped.{countAt, outer, innerNodes, inner}
+use Rattle.om3.specs.Finished.{insideNodes, answer, count}
+use Rattle.om3.specs.Joined.{joined}
+use Rattle.om3.specs.Looked.{lookThrough}
 use Rattle.om3.proofs as om3
 
 -- P is at least n, for up to 16,384 hours, at least 2, and the smallest such power of two.
@@ -94,14 +104,46 @@ record-range : (n : ℕ) (t : Table) → Bytes (t .codes) → Bytes (recordOf n 
 record-range = om3.Records.record-range
 
 -- A record that opening takes is that of the table that it states.
-record-forth : (r : List ℕ) → Bytes r → openingChecks r ≡ passes → recordOf (hoursIn r) (tableIn r) ≡ r
+record-forth : (r : List ℕ) → Bytes r → inOrder (openingChecks r) ≡ passes → recordOf (hoursIn r) (tableIn r) ≡ r
 record-forth = om3.RecordsForth.record-forth
 
 -- One table of n hours has one record.
-one-record : (r q : List ℕ) → Bytes r → Bytes q → openingChecks r ≡ passes → openingChecks q ≡ passes
+one-record : (r q : List ℕ) → Bytes r → Bytes q → inOrder (openingChecks r) ≡ passes
+    → inOrder (openingChecks q) ≡ passes
     → hoursIn r ≡ hoursIn q → tableIn r ≡ tableIn q → r ≡ q
 one-record = om3.RecordsForth.record-one
 
 -- Opening takes the bytes whose fields fit one another and their length, and no others.
-opening-exactly : (r : List ℕ) → (openingChecks r ≡ passes) ↔ Openable r
+opening-exactly : (r : List ℕ) → (inOrder (openingChecks r) ≡ passes) ↔ Openable r
 opening-exactly = om3.RecordsOpened.opening-exactly
+
+-- Of a record that opening takes, asking finds every place that is not refused with 13 within the bytes: asking it is
+-- asking its view.
+asking-opened : (r : List ℕ) (p : ℕ) → inOrder (openingChecks r) ≡ passes → asking r p ≡ askingView r (P (hoursIn r)) p
+asking-opened = om3.RecordsOpened.asking-opened
+
+-- A column without an hour has neither range, no reading and count 0, stopped or finished.
+module _ (l : ℕ) (t : Table) (x : Column) (none : x .upto .0 ≤ x .from .0) where
+  no-hour-outer : (d : ℕ) → outer l t x d ≡ Range.Empty
+  no-hour-outer = om3.WithoutHours.none-outer l t x none
+
+  no-hour-inner : (d : ℕ) → inner l t x d ≡ Range.Empty
+  no-hour-inner = om3.WithoutHours.none-inner l t x none
+
+  no-hour-answer : answer l t x ≡ Answer.NoReading
+  no-hour-answer = om3.WithoutHours.none-answer l t x none
+
+  no-hour-count : (d : ℕ) → countAt l t x d ≡ 0
+  no-hour-count = om3.WithoutHours.none-count l t x none
+
+  no-hour-finished-count : count l t x ≡ 0
+  no-hour-finished-count = om3.WithoutHours.none-finished-count l t x none
+
+-- The non-empty inside visited nodes are the nodes of the inner range at depth l.
+inside-inner : (l : ℕ) (t : Table) (x : Column) → insideNodes l t x ≡ innerNodes l t x l
+inside-inner = om3.KeptNodes.inside-inner
+
+-- What a look through hours gives is the answers of the single hours, joined one after the other.
+look-through-joined : (n : ℕ) (s : List ℤ) (hs : List Timestamp)
+    → lookThrough n s hs ≡ foldr {B = Answer} joined Answer.NoReading (map (λ h. lookThrough n s (h ∷ [])) hs)
+look-through-joined = om3.LookedThrough.look-through-joined

@@ -95,7 +95,6 @@ each-call =
       open-record = equation _;
       ask = equation _;
       ask-record = equation _;
-      ask-once = equation _;
       by-hand = by-hand;
       open-view = λ bytes v v′ x y. by-equation x y;
       ask-view = λ v p u u′ x y. by-equation x y;

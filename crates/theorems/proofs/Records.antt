@@ -2,7 +2,7 @@
 -- of single coefficients. Assumes nothing.
 use mathlib.Core.Path.{_≡_, refl, sym, ap, _∙_}
 use mathlib.Core.Bool.{false}
-use mathlib.Core.List.{List}
+use mathlib.Core.List.{List, [], _∷_}
 use mathlib.Core.Logic.{_↔_}
 use Prim.Native.Nat.{ℕ, _+_, _*_, _/_, _≤_, _<_}
 use native.Mathlib.Omega.{arith}
@@ -16,20 +16,22 @@ use Rattle.words.specs.declared.Opening.{Opening}
 use Rattle.words.specs.declared.Asking.{Asking}
 use Rattle.om3.specs.Series.{Series, levels, P}
 use Rattle.om3.specs.Table.{Table, tableOf, HasTable, lent}
-use Rattle.om3.specs.Checks.{Check, passes, refuses, inOrder}
-use Rattle.om3.specs.Refusals.{tableShort, Enough, examineTable}
+use Rattle.om3.specs.Checks.{Check, passes, refuses, andThen, inOrder, answerBy}
+use Rattle.om3.specs.Refusals.{tableShort, checkRoom, examineTable}
 use Rattle.om3.specs.Calls.{filled}
-use Rattle.om3.specs.Record.{Bytes, recordSize, recordOf, HasRecord, headerSize, hoursIn, tableIn}
-use Rattle.om3.specs.Record.{writingChecks, writingBy, openingChecks, readingChecks, unpackingBy}
-use Rattle.om3.specs.Record.{openedRecord, askedView, askedRecord}
+use Rattle.om3.specs.Bytes.{Bytes}
+use Rattle.om3.specs.Record.{recordSize, recordOf, HasRecord, headerSize, hoursIn, tableIn}
+use Rattle.om3.specs.RecordCalls.{writingChecks, openingChecks, unpackingChecks, opening, askingView, asking}
+use Rattle.sizes.specs.Lent.{Enough}
 use Rattle.om3.proofs.Making.{good-some}
-use Rattle.om3.proofs.Examined.{order-parts, first-absent, examine-sound}
-use Rattle.om3.proofs.Lent.{coefficients-there, codes-there, table-room}
-use Rattle.om3.proofs.TableChecks.{decided, passed}
+use Rattle.om3.proofs.Examined.{then-first, then-second, first-absent, examine-sound}
+use Rattle.om3.proofs.Lent.{coefficients-there, codes-there}
+use Rattle.sizes.proofs.Lent.{table-room}
+use Rattle.sizes.proofs.TableChecks.{decided, passed}
 use Rattle.om3.proofs.Filled.{filled-first, filled-room}
 use Rattle.om3.proofs.Records.{record-size}
 use Rattle.om3.proofs.RecordsOpened.{opens-formed, asked-unpacked}
-use Rattle.om3.proofs.RecordsTaken.{opened-room, table-record, made-read}
+use Rattle.om3.proofs.RecordsTaken.{unpacking-parted, opened-room, table-record, made-read}
 use Rattle.om3.proofs.RecordsTaken.{reading-exactly, record-hours, record-table}
 use Rattle.om3.proofs.Demand2 as demand2
 use Rattle.opening.proofs.Asked.{opened-asked}
@@ -38,11 +40,13 @@ use Rattle.reading.specs.Reading.{RecordRead}
 use Rattle.theorems.proofs.Calls.{filled-has}
 
 -- A call that answers is one whose checks passed.
-written-passes : (c : Check) (n b : ℕ) → Writing.Bytes b ≡ writingBy c n → (c ≡ passes) × (b ≡ recordSize n)
+written-passes : (c : Check) (n b : ℕ) → Writing.Bytes b ≡ answerBy Writing.Refused c (Writing.Bytes (recordSize n))
+    → (c ≡ passes) × (b ≡ recordSize n)
 written-passes passes n b e = (refl, cc)
 written-passes (refuses why) n b e = (cc, cc)
 
-read-passes : (c : Check) (n m : ℕ) → Unpacking.Hours m ≡ unpackingBy c n → (c ≡ passes) × (m ≡ n)
+read-passes : (c : Check) (n m : ℕ) → Unpacking.Hours m ≡ answerBy Unpacking.Refused c (Unpacking.Hours n)
+    → (c ≡ passes) × (m ≡ n)
 read-passes passes n m e = (refl, cc)
 read-passes (refuses why) n m e = (cc, cc)
 
@@ -54,8 +58,9 @@ module _ (r : List ℕ) (bytes : Bytes r) (cs : List ℤ) (ks : List ℕ)
   pub read-exactly : (u ≡ Unpacking.Hours (hoursIn r))
       ↔ ((s : List ℤ) × Series (hoursIn r) s × HasRecord (hoursIn r) s r)
   read-exactly =
-      let exactly = reading-exactly r bytes (lent cs ks) room in (
-        λ e. exactly .0 (read-passes (readingChecks r (lent cs ks)) (hoursIn r) (hoursIn r) (sym e ∙ done .answer) .0),
+      let exactly = reading-exactly r bytes (lent cs ks) room in
+      let checks = inOrder (unpackingChecks r (lent cs ks)) in (
+        λ e. exactly .0 (read-passes checks (hoursIn r) (hoursIn r) (sym e ∙ done .answer) .0),
         λ h. rw (exactly .1 h) at (done .answer),
       )
 
@@ -76,8 +81,8 @@ module _ (n : ℕ) (cs : List ℤ) (ks out out′ : List ℕ) (b : ℕ)
   abbrev T : Table
   T = lent cs ks
 
-  written-checks : (writingChecks n T (length out) ≡ passes) × (b ≡ recordSize n)
-  written-checks = written-passes (writingChecks n T (length out)) n b (done .answer)
+  written-checks : (inOrder (writingChecks n T (length out)) ≡ passes) × (b ≡ recordSize n)
+  written-checks = written-passes (inOrder (writingChecks n T (length out))) n b (done .answer)
 
   both-right : Enough n cs ks (length out) (recordSize n) × (examineTable n T ≡ passes)
   both-right = passed n cs ks (length out) (recordSize n) (written-checks .0)
@@ -104,7 +109,8 @@ module _ (n : ℕ) (cs : List ℤ) (ks out out′ : List ℕ) (b : ℕ)
       let s = some-series .0 in
       let series = some-series .1 in
       let has = written-record ∙ table-record n s T (some-series .2) in
-      let ok = ap (λ (r : List ℕ). readingChecks r (lent cs₁ ks₁)) has ∙ made-read n s series (lent cs₁ ks₁) room in
+      let ok = ap (λ (r : List ℕ). inOrder (unpackingChecks r (lent cs₁ ks₁))) has
+      ∙ made-read n s series (lent cs₁ ks₁) room in
       let t = record-table n (take b out′) s series has in (
         rw (ok, record-hours n (take b out′) s series has) at (read .answer),
         rw ok at (read .coefficients)
@@ -118,22 +124,26 @@ module _ (n : ℕ) (cs : List ℤ) (ks out out′ : List ℕ) (b : ℕ)
 -- A record that was read.
 module _ (r : List ℕ) (cs : List ℤ) (ks : List ℕ) (cs′ : List ℤ) (ks′ : List ℕ) (n : ℕ)
     (done : RecordRead r cs ks cs′ ks′ (Unpacking.Hours n)) where
-  both : (readingChecks r (lent cs ks) ≡ passes) × (n ≡ hoursIn r)
-  both = read-passes (readingChecks r (lent cs ks)) (hoursIn r) n (done .answer)
+  both : (inOrder (unpackingChecks r (lent cs ks)) ≡ passes) × (n ≡ hoursIn r)
+  both = read-passes (inOrder (unpackingChecks r (lent cs ks))) (hoursIn r) n (done .answer)
 
-  abbrev read-checks : readingChecks r (lent cs ks) ≡ passes
+  abbrev read-checks : inOrder (unpackingChecks r (lent cs ks)) ≡ passes
   read-checks = both .0
 
   abbrev stated-hours : n ≡ hoursIn r
   stated-hours = both .1
 
-  opens : openingChecks r ≡ passes
-  opens = order-parts (openingChecks r) _ read-checks .0
+  abbrev parted : andThen (inOrder (openingChecks r))
+      (inOrder (checkRoom (tableShort (hoursIn r) (lent cs ks)) ∷ examineTable (hoursIn r) (tableIn r) ∷ [])) ≡ passes
+  parted = sym (unpacking-parted r (lent cs ks)) ∙ read-checks
+
+  opens : inOrder (openingChecks r) ≡ passes
+  opens = then-first (inOrder (openingChecks r)) _ parted
 
   room-lent : tableShort (hoursIn r) (lent cs ks) ≡ false
   room-lent =
       first-absent (tableShort (hoursIn r) (lent cs ks)) ShortBuffer _
-      (order-parts (openingChecks r) _ read-checks .1) .0
+      (then-second (inOrder (openingChecks r)) _ parted) .0
 
   left-room : (P (hoursIn r) ≤ length cs′) × (P (hoursIn r) / 2 ≤ length ks′)
   left-room =
@@ -145,13 +155,13 @@ module _ (r : List ℕ) (cs : List ℤ) (ks : List ℕ) (cs′ : List ℤ) (ks�
       (omega (arith, a, coefficients-there k t room), omega (arith, b, codes-there k t room))
 
   -- Opening it answers n and P ..
-  opened-read : openedRecord r ≡ Opening.Record n (P n)
-  unfolding openedRecord
+  opened-read : opening r ≡ Opening.Record n (P n)
+  unfolding opening
   opened-read = rw (opens, stated-hours)
 
   -- .. and a coefficient asked for is the one that was unpacked.
-  viewed : (p : ℕ) → p < P n → askedView r (P n) p ≡ Asking.Coefficient (getD cs′ p (pos 0))
-  unfolding askedView inOrder
+  viewed : (p : ℕ) → p < P n → askingView r (P n) p ≡ Asking.Coefficient (getD cs′ p (pos 0))
+  unfolding askingView inOrder
   viewed p h =
       let h′ : p < P (hoursIn r) = rw (← stated-hours) h in
       let size = opens-formed r opens .sized in
@@ -163,7 +173,7 @@ module _ (r : List ℕ) (cs : List ℤ) (ks : List ℕ) (cs′ : List ℤ) (ks�
       (ap Asking.Coefficient
       (asked-unpacked r p h′ ∙ sym (List·getD-append (tableIn r .coefficients) _ (pos 0) p there)))
 
-  pub asked-read : (p : ℕ) → p < P n → askedRecord r p ≡ Asking.Coefficient (getD cs′ p (pos 0))
+  pub asked-read : (p : ℕ) → p < P n → asking r p ≡ Asking.Coefficient (getD cs′ p (pos 0))
   asked-read p h = sym (opened-asked r p n (P n) (sym opened-read)) ∙ viewed p h
 
   -- Its bytes are bytes.
@@ -179,7 +189,7 @@ module _ (r : List ℕ) (cs : List ℤ) (ks : List ℕ) (cs′ : List ℤ) (ks�
 
     -- .. so writing it is taken.
     write-checks : (out : List ℕ) → length r ≤ length out
-        → writingChecks (hoursIn r) (lent cs′ ks′) (length out) ≡ passes
+        → inOrder (writingChecks (hoursIn r) (lent cs′ ks′) (length out)) ≡ passes
     write-checks out fits =
         let k = hoursIn r in
         let series = its-series .1 in

@@ -7,10 +7,11 @@ use Rattle.words.specs.declared.{Refusal.Refusal, Taking.Taking, Unpacking.Unpa
 use Rattle.words.specs.declared.{Finished.Finished, Stopped.Stopped}
 use Rattle.om3.specs.{Series.Series, Series.levels, Table.Table, Table.tableOf, Table.HasTable, Table.lent}
 use Rattle.om3.specs.{Checks.Check, Checks.refuses, Checks.inOrder, Checks.FirstCause, Calls.filled}
-use Rattle.om3.specs.{Refusals.tableShort, Refusals.Enough, Record.Bytes, Record.HasRecord, Record.hoursIn}
+use Rattle.om3.specs.{Refusals.tableShort, Bytes.Bytes, Record.HasRecord, Record.hoursIn}
 use Rattle.om3.specs.{Columns.column, Columns.columnHours, Finished.finished, Stopped.stopped, Looked.lookThrough}
-use Rattle.om3.specs.Drawn.{Drawn, outerAt, innerAt, countOf, finishedCount, Ranged}
+use Rattle.om3.specs.{Stopped.outer, Stopped.inner, Stopped.countAt, Finished.count, Drawn.Drawn, Drawn.Ranged}
 use Rattle.om3.proofs as om3
+use Rattle.sizes.specs.Lent.{Enough}
 use Rattle.making.specs.Making.{Made}
 use Rattle.turning.specs.Turning.{TurnedBack}
 use Rattle.reading.specs.Reading.{RecordRead}
@@ -85,12 +86,12 @@ one-series = om3.RecordsTaken.record-series
 module _ (n : ℕ) (s : List ℤ) (t : Table) (series : Series n s) (has : HasTable n s t)
     (a b w k : ℕ) (drawn : Drawn n a b w k) where
   finished-column : (let x = column a b w k in
-      finished n t a b w k ≡ Finished.Answered (lookThrough n s (columnHours x)) (finishedCount n t x))
+      finished n t a b w k ≡ Finished.Answered (lookThrough n s (columnHours x)) (count (levels n) t x))
   finished-column = om3.Demand3.finished-drawn n s t series has a b w k drawn
 
   -- .. and stopped at a depth up to l, an outer range, an inner range and the defined count.
-  stopped-column : (d : ℕ) → d ≤ levels n → (let x = column a b w k in
-      stopped n t a b w k d ≡ Stopped.Ranges (outerAt n t x d) (innerAt n t x d) (countOf n t x d))
+  stopped-column : (d : ℕ) → d ≤ levels n → (let l = levels n in let x = column a b w k in
+      stopped n t a b w k d ≡ Stopped.Ranges (outer l t x d) (inner l t x d) (countAt l t x d))
   stopped-column = om3.Demand3.stopped-drawn n s t series has a b w k drawn
 
   -- The outer range holds every reading of the column, the inner lies between its lowest and highest, a deeper stop

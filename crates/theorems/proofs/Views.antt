@@ -7,24 +7,25 @@ use Rattle.words.specs.declared.Refusal.{Refusal}
 use Rattle.words.specs.declared.Refusal.the-variants.{BadPlace}
 use Rattle.words.specs.declared.Asking.{Asking}
 use Rattle.om3.specs.Series.{P}
-use Rattle.om3.specs.Checks.{passes, refuses}
-use Rattle.om3.specs.Record.{hoursIn, coefficientIn, openingChecks, openedRecord, askedView, askedRecord}
+use Rattle.om3.specs.Checks.{passes, refuses, inOrder}
+use Rattle.om3.specs.Record.{hoursIn, coefficientIn}
+use Rattle.om3.specs.RecordCalls.{openingChecks, opening, askingView, asking}
 use Rattle.view.specs.declared.View.{View}
 use Rattle.view.specs.View.{viewPlaces, viewOf}
 use Rattle.view.proofs.Viewed as viewed
 
 -- `open` gave the view v of these bytes, and `ask`, asked for place p of it, answered u.
 module _ (bytes : RefT (List ℕ)) (v : View) (opens : v ≡ viewOf bytes) (p : ℕ) (u : Asking)
-    (asks : u ≡ askedView (now (v .bytes)) (v .places) p) where
+    (asks : u ≡ askingView (now (v .bytes)) (v .places) p) where
   abbrev r : List ℕ
   r = now bytes
 
-  answer : u ≡ askedView r (viewPlaces r) p
-  answer = asks ∙ ap (λ (x : View). askedView (now (x .bytes)) (x .places) p) opens
+  answer : u ≡ askingView r (viewPlaces r) p
+  answer = asks ∙ ap (λ (x : View). askingView (now (x .bytes)) (x .places) p) opens
 
   -- Of bytes that opening takes the answer is what the record answers when it is opened and asked ..
-  pub view-answers : openingChecks r ≡ passes → u ≡ askedRecord r p
-  unfolding openedRecord
+  pub view-answers : inOrder (openingChecks r) ≡ passes → u ≡ asking r p
+  unfolding opening
   view-answers taken = answer ∙ viewed.opened-view r p (hoursIn r) (P (hoursIn r)) (rw taken)
 
   -- .. which is the coefficient there for each place that the view has, never 8 ..
@@ -32,6 +33,6 @@ module _ (bytes : RefT (List ℕ)) (v : View) (opens : v ≡ viewOf bytes) (p : 
   view-coefficient below = answer ∙ viewed.view-coefficient r p (rw opens at below)
 
   -- .. and of bytes that it refuses 13.
-  pub view-refuses : (why : Refusal) → openingChecks r ≡ refuses why → u ≡ Asking.Refused BadPlace
-  unfolding openedRecord
+  pub view-refuses : (why : Refusal) → inOrder (openingChecks r) ≡ refuses why → u ≡ Asking.Refused BadPlace
+  unfolding opening
   view-refuses why refused = answer ∙ sym (viewed.refused-view r p why (rw refused))

@@ -20,7 +20,7 @@ use denote.Ref.{RefT, now}
 use denote.Triple.Clauses.{Clauses}
 use borrow.Fn.World.{World, ArgsD}
 use Rattle.words.specs.declared.Asking.{Asking}
-use Rattle.om3.specs.Record.{askedView}
+use Rattle.om3.specs.RecordCalls.{askingView}
 use Rattle.view.specs.declared.View.{View}
 use Rattle.view.specs.View.{viewOf}
 use Rattle.making.proofs.make.Reads as make
@@ -34,7 +34,6 @@ use Rattle.opening.proofs.ask.Reads as ask
 use Rattle.view.proofs.open as opening
 use Rattle.view.proofs.ask as asking
 use Rattle.view.proofs.ask_record.Reads as ask-record
-use Rattle.view.proofs.ask_once.Reads as ask-once
 use Rattle.columns.proofs.edges.Reads as edges
 use Rattle.columns.proofs.stopped.Reads as stopped
 use Rattle.columns.proofs.finished.Reads as finished
@@ -104,7 +103,7 @@ pub record WalkedByHand : Type 2 where
   pub ask-asks : (w : World) (κs : Lfts 1) (a : ArgsD asking.signature κs)
       → asks w κs a .requires tt ≡ connectives (w .𝓤) .⊤ₛ
   pub ask-promises : (w : World) (κs : Lfts 1) (a : ArgsD asking.signature κs) (u : Asking) (e : _)
-      → asks w κs a .ensures tt u e ≡ fact (w .𝓤) (u ≡ askedView (now (a .0 .bytes)) (a .0 .places) (a .1 .0))
+      → asks w κs a .ensures tt u e ≡ fact (w .𝓤) (u ≡ askingView (now (a .0 .bytes)) (a .0 .places) (a .1 .0))
 
 pub record EachTold : Type 0 where
   pub make : TwoBuffers (λ κs e. now (third e)) (λ κs e. now (fourth e)) make-told.Asked make-told.Learnt
@@ -134,12 +133,11 @@ pub record EachCall : Type 2 where
   pub open-record : OneAnswer open-record.Asked open-record.Learnt
   pub ask : OneAnswer ask.Asked ask.Learnt
   pub ask-record : OneAnswer ask-record.Asked ask-record.Learnt
-  -- The view: asking it once; opening it and asking it, which are walked by hand, and of which this is the contract.
-  pub ask-once : OneAnswer ask-once.Asked ask-once.Learnt
+  -- The view: opening it and asking it, which are walked by hand, and of which this is the contract.
   pub by-hand : WalkedByHand
   pub open-view : (bytes : RefT (List ℕ)) (v v′ : View) → v ≡ viewOf bytes → v′ ≡ viewOf bytes → v ≡ v′
-  pub ask-view : (v : View) (p : ℕ) (u u′ : Asking) → u ≡ askedView (now (v .bytes)) (v .places) p
-      → u′ ≡ askedView (now (v .bytes)) (v .places) p → u ≡ u′
+  pub ask-view : (v : View) (p : ℕ) (u u′ : Asking) → u ≡ askingView (now (v .bytes)) (v .places) p
+      → u′ ≡ askingView (now (v .bytes)) (v .places) p → u ≡ u′
   -- Columns: the edges, the answer stopped at a depth, the finished answer; joining; the day change.
   pub column-edges : OneAnswer edges.Asked edges.Learnt
   pub stopped-column : OneAnswer stopped.Asked stopped.Learnt

@@ -15,12 +15,13 @@ use lib.Seq.{getD-set-same, getD-set-other, ext-getD}
 use borrow.Author.Tests.{eqb-true, eqb-false}
 use Rattle.words.specs.Constants.{gap}
 use Rattle.words.specs.Said.{lowOf}
-use Rattle.om3.specs.Nodes.{Node, root, left, right, width, Located}
+use Rattle.om3.specs.Nodes.{Node, root, left, right, width}
 use Rattle.om3.specs.Table.{Table}
 use Rattle.om3.specs.Down.{reachedAt, reached, turnedBack}
+use Rattle.node.specs.Located.{Located}
 use Rattle.om3.proofs.Tests.{below-or-not}
 use Rattle.om3.proofs.Nodes.{width-hour, start-hour}
-use Rattle.om3.proofs.Located.{root-located, left-located, right-located}
+use Rattle.node.proofs.Located.{root-located, left-located, right-located}
 use Rattle.om3.proofs.TurnedBack.{turned-length, turned-at}
 use Rattle.turning.specs.Turning.{withHours}
 

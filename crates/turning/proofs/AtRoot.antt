@@ -20,7 +20,7 @@ use Rattle.om3.specs.Checks.{inOrder}
 use Rattle.om3.specs.Sound.{soundRootValues, examine}
 use Rattle.om3.specs.Refusals.{examineTable}
 use Rattle.om3.proofs.Levels.{P-even}
-use Rattle.om3.proofs.Located.{root-located}
+use Rattle.node.proofs.Located.{root-located}
 use Rattle.om3.proofs.SoundDetails.{root-values}
 use Rattle.node.specs.declared.Root.{Root}
 use Rattle.node.specs.Steps.{rootOf}

@@ -10,14 +10,15 @@ use lib.ListN.{getD}
 use Rattle.words.specs.declared.NodeId.{NodeId}
 use Rattle.words.specs.declared.Range.{Range}
 use Rattle.om3.specs.Series.{hour}
-use Rattle.om3.specs.Nodes.{Node, number, left, right, start, Located}
+use Rattle.om3.specs.Nodes.{Node, number, left, right, start}
 use Rattle.om3.specs.Ranges.{Readings}
 use Rattle.om3.specs.Table.{Table, lent}
 use Rattle.om3.specs.Down.{leftHalf, rightHalf, firstOfPair, secondOfPair, reached}
 use Rattle.om3.specs.Checks.{Check, andThen, inOrder}
 use Rattle.om3.specs.Sound.{soundDetails, soundCode, gapFrom, soundNode, nodesBelow, examineNode, examineNodes}
+use Rattle.node.specs.Located.{Located}
 use Rattle.om3.proofs.Nodes.{pair-yes, pair-no, pair-half, start-hour}
-use Rattle.om3.proofs.Located.{above-hours, above-pairs, at-pair, pair-width, left-located, right-located}
+use Rattle.node.proofs.Located.{above-hours, above-pairs, at-pair, pair-width, left-located, right-located}
 use Rattle.om3.proofs.Reached.{reached-left, reached-right}
 use Rattle.om3.proofs.SoundDetails.{details}
 use Rattle.om3.proofs.Examined.{in-order-append, then-passes}

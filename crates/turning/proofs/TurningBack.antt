@@ -15,27 +15,29 @@ use Rattle.words.specs.declared.Taking.{Taking}
 use Rattle.om3.specs.Lists.{every}
 use Rattle.om3.specs.Series.{badHours, levels, P}
 use Rattle.om3.specs.Nodes.{root}
-use Rattle.om3.specs.Checks.{Check, passes, refuses}
+use Rattle.om3.specs.Table.{lent}
+use Rattle.om3.specs.Checks.{Check, passes, refuses, inOrder}
 use Rattle.om3.specs.Sound.{soundRootValues, nodesBelow, soundTable, soundNode}
-use Rattle.om3.specs.Refusals.{tableShort, Enough, examineTable, turningBackChecks}
+use Rattle.om3.specs.Refusals.{tableShort, examineTable}
+use Rattle.om3.specs.Calls.{turningBackChecks}
+use Rattle.sizes.specs.Lent.{Enough}
 use Rattle.om3.proofs.Making.{good-some}
 use Rattle.om3.proofs.Tests.{and-right}
 use Rattle.om3.proofs.Levels.{n≤P}
-use Rattle.om3.proofs.Located.{root-located}
+use Rattle.node.proofs.Located.{root-located}
 use Rattle.om3.proofs.TurnedBack.{turned-length}
 use Rattle.om3.proofs.Examined.{examine-sound}
-use Rattle.om3.proofs.TableChecks as checked
+use Rattle.sizes.proofs.TableChecks as checked
 use Rattle.node.specs.declared.Root.{Root}
 use Rattle.node.specs.Steps.{rootOf}
 use Rattle.turning.specs.declared.Verdict.{Verdict}
-use Rattle.om3.specs.Table.{lent}
 use Rattle.turning.specs.Turning.{checkOf, Written, TurnedBack}
 use Rattle.turning.proofs.AtRoot.{root-unsound, root-reached}
 use Rattle.turning.proofs.AllWritten.{all-written}
 
 module _ (n : ℕ) (cs : List ℤ) (ks : List ℕ) (out : List ℤ) where
   abbrev checks : Check
-  checks = turningBackChecks n (lent cs ks) (length out)
+  checks = inOrder (turningBackChecks n (lent cs ks) (length out))
 
   -- A refusal leaves the hours as they were.
   refused : (why : Refusal) → checks ≡ refuses why → TurnedBack n cs ks out out (Taking.Refused why)

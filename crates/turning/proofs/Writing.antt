@@ -10,13 +10,14 @@ use Rattle.signed.proofs.Parts.{clash}
 use Rattle.words.specs.Said.{lowOf}
 use Rattle.words.specs.declared.Range.{Range}
 use Rattle.om3.specs.Lists.{every}
-use Rattle.om3.specs.Nodes.{Node, left, right, Located}
+use Rattle.om3.specs.Nodes.{Node, left, right}
 use Rattle.om3.specs.Table.{Table, lent}
 use Rattle.om3.specs.Down.{leftHalf, rightHalf, firstOfPair, secondOfPair, reached}
 use Rattle.om3.specs.Sound.{soundDetails, soundCode, soundNode, nodesBelow}
+use Rattle.node.specs.Located.{Located}
 use Rattle.om3.proofs.Tests.{and-left, and-right}
 use Rattle.om3.proofs.Nodes.{pair-yes, pair-no}
-use Rattle.om3.proofs.Located.{one-more, above-pairs, at-pair, left-located, right-located}
+use Rattle.node.proofs.Located.{one-more, above-pairs, at-pair, left-located, right-located}
 use Rattle.om3.proofs.Reached.{reached-left, reached-right}
 use Rattle.om3.proofs.NodeLists.{every-append}
 use Rattle.node.specs.declared.Halves.{Halves}

@@ -20,13 +20,13 @@ use Rattle.words.specs.declared.Refusal.the-variants as refusal
 use Rattle.words.specs.declared.Taking.{Taking}
 use Rattle.om3.specs.Lists.{every}
 use Rattle.om3.specs.Series.{levels, hour}
-use Rattle.om3.specs.Nodes.{Node, left, right, Located}
+use Rattle.om3.specs.Nodes.{Node, left, right}
 use Rattle.om3.specs.Table.{Table, lent}
 use Rattle.om3.specs.Down.{firstOfPair, secondOfPair, reached, turnedBack}
-use Rattle.om3.specs.Checks.{Check, passes, refuses}
+use Rattle.om3.specs.Checks.{Check, passes, refuses, inOrder}
 use Rattle.om3.specs.Sound.{soundCode, gapFrom, soundNode, nodesBelow, examineNodes}
-use Rattle.om3.specs.Refusals.{turningBackChecks}
-use Rattle.om3.specs.Calls.{takingBy, writtenBy}
+use Rattle.om3.specs.Calls.{turningBackChecks, turningBack, writtenBy}
+use Rattle.node.specs.Located.{Located}
 use Rattle.node.specs.declared.Halves.{Halves}
 use Rattle.turning.specs.declared.Verdict.{Verdict}
 
@@ -60,10 +60,10 @@ pub record PairsExamined (n : ℕ) (ks : List ℕ) (i : NodeId) (f : ℕ) (one t
   pub refused : (k : NodeId) → found ≡ Verdict.Unsound k → r ≡ Verdict.Unsound k
   pub second : found ≡ Verdict.Sound → PairExamined n ks (record { 0 = i .0 + 1 }) (f + 2) two r
 
--- The hours out with those of the single hours below node v, h levels down, as the table t gives them.
+-- The hours out with those of the single hours below node v, c levels down, as the table t gives them.
 unfoldable pub withHours : (l : ℕ) → Table → ℕ → Node → List ℤ → List ℤ
 withHours l t zero v out = set out (v .index) (lowOf (reached l t v))
-withHours l t (suc h) v out = withHours l t h (right v) (withHours l t h (left v) out)
+withHours l t (suc c) v out = withHours l t c (right v) (withHours l t c (left v) out)
 
 -- Below a node all of whose nodes are sound, in a series of some n hours.
 pub record Written (cs : List ℤ) (ks : List ℕ) (i f w : ℕ) (range : Range) (out out′ : List ℤ) : Type 0 where
@@ -78,6 +78,6 @@ pub record PairWritten (ks : List ℕ) (f : ℕ) (range : Range) (out out′ : L
 -- The table of n hours in lent coefficients cs and codes ks becomes n hours in the lent buffer out.
 -- [refusals 14, 15, 16, 17] [statements 1]
 pub record TurnedBack (n : ℕ) (cs : List ℤ) (ks : List ℕ) (out out′ : List ℤ) (r : Taking) : Type 0 where
-  pub answer : r ≡ takingBy (turningBackChecks n (lent cs ks) (length out))
+  pub answer : r ≡ turningBack n (lent cs ks) (length out)
   pub hours : out′
-      ≡ writtenBy (turningBackChecks n (lent cs ks) (length out)) (turnedBack (levels n) (lent cs ks) n) out
+      ≡ writtenBy (inOrder (turningBackChecks n (lent cs ks) (length out))) (turnedBack (levels n) (lent cs ks) n) out

@@ -9,51 +9,59 @@ use Rattle.words.specs.declared.Refusal.{Refusal}
 use Rattle.words.specs.declared.Refusal.the-variants.{BadPlace}
 use Rattle.words.specs.declared.Opening.{Opening}
 use Rattle.words.specs.declared.Asking.{Asking}
-use Rattle.om3.specs.Checks.{Check, passes, refuses, inOrder}
-use Rattle.om3.specs.Record.{headerSize, coefficientIn, openingChecks, openedBy, openedRecord}
-use Rattle.om3.specs.Record.{askedView, askedRecord}
+use Rattle.om3.specs.Series.{P}
+use Rattle.om3.specs.Checks.{Check, passes, refuses, inOrder, answerBy}
+use Rattle.om3.specs.Record.{headerSize, hoursIn, coefficientIn}
+use Rattle.om3.specs.RecordCalls.{openingChecks, opening, askingView, asking}
 use Rattle.om3.proofs.RecordsOpened.{opens-formed}
 use Rattle.opening.proofs.Asked.{opened-asked, past-places}
-use Rattle.view.specs.View.{placesBy, viewPlaces}
+use Rattle.view.specs.View.{viewPlaces}
 
 module _ (r : List ℕ) where
+  -- What opening answers, and how many places the view has, by the checks of opening.
+  abbrev told : Check → Opening
+  told c = answerBy Opening.Refused c (Opening.Record (hoursIn r) (P (hoursIn r)))
+
+  abbrev places-by : Check → ℕ
+  places-by c = answerBy (λ why. 0) c (P (hoursIn r))
+
   -- A record that opening takes has a view of as many places as opening says, other bytes have one of none.
-  pub opened-places : (n places : ℕ) → Opening.Record n places ≡ openedRecord r → places ≡ viewPlaces r
-  unfolding openedRecord viewPlaces
-  opened-places n places e = by (openingChecks r) e
+  pub opened-places : (n places : ℕ) → Opening.Record n places ≡ opening r → places ≡ viewPlaces r
+  unfolding opening viewPlaces
+  opened-places n places e = by (inOrder (openingChecks r)) e
     where
-      by : (c : Check) → Opening.Record n places ≡ openedBy c r → places ≡ placesBy c r
+      by : (c : Check) → Opening.Record n places ≡ told c → places ≡ places-by c
       by passes h = cc
       by (refuses why) h = cc
 
-  pub refused-places : (why : Refusal) → Opening.Refused why ≡ openedRecord r → 0 ≡ viewPlaces r
-  unfolding openedRecord viewPlaces
-  refused-places why e = by (openingChecks r) e
+  pub refused-places : (why : Refusal) → Opening.Refused why ≡ opening r → 0 ≡ viewPlaces r
+  unfolding opening viewPlaces
+  refused-places why e = by (inOrder (openingChecks r)) e
     where
-      by : (c : Check) → Opening.Refused why ≡ openedBy c r → 0 ≡ placesBy c r
+      by : (c : Check) → Opening.Refused why ≡ told c → 0 ≡ places-by c
       by passes h = cc
       by (refuses other) h = refl
 
   module _ (p : ℕ) where
     -- The view of an opened record answers what the record answers, that of bytes that opening refuses 13.
-    pub opened-view : (n places : ℕ) → Opening.Record n places ≡ openedRecord r
-        → askedView r (viewPlaces r) p ≡ askedRecord r p
+    pub opened-view : (n places : ℕ) → Opening.Record n places ≡ opening r
+        → askingView r (viewPlaces r) p ≡ asking r p
     opened-view n places e = opened-asked r p n (viewPlaces r) (rw (← opened-places n places e) e)
 
-    pub refused-view : (why : Refusal) → Opening.Refused why ≡ openedRecord r
-        → Asking.Refused BadPlace ≡ askedView r (viewPlaces r) p
+    pub refused-view : (why : Refusal) → Opening.Refused why ≡ opening r
+        → Asking.Refused BadPlace ≡ askingView r (viewPlaces r) p
     refused-view why e = past-places r (viewPlaces r) p (omega (arith, refused-places why e))
 
     -- The bytes reach each place of their view ..
     reaches : p < viewPlaces r → headerSize + 3 * p + 3 ≤ length r
     unfolding viewPlaces
-    reaches h = by (openingChecks r) refl h
+    reaches h = by (inOrder (openingChecks r)) refl h
       where
-        by : (c : Check) → openingChecks r ≡ c → p < placesBy c r → headerSize + 3 * p + 3 ≤ length r
+        by : (c : Check) → inOrder (openingChecks r) ≡ c → p < places-by c → headerSize + 3 * p + 3 ≤ length r
         by passes e below = omega (arith, opens-formed r e .sized)
         by (refuses why) e below = omega arith
 
     -- .. so it answers each with the coefficient there, and never 8.
-    pub view-coefficient : p < viewPlaces r → askedView r (viewPlaces r) p ≡ Asking.Coefficient (coefficientIn r p)
-    unfolding askedView inOrder
+    pub view-coefficient : p < viewPlaces r → askingView r (viewPlaces r) p ≡ Asking.Coefficient (coefficientIn r p)
+    unfolding askingView inOrder
     view-coefficient h = rw (lt-leb (viewPlaces r) p h, le-ltb (length r) (headerSize + 3 * p + 3) (reaches h))

@@ -2,7 +2,7 @@
 use words::Asking;
 use words::Opening;
 ghost use mathlib.Core.Path.{_≡_};
-ghost use Rattle.om3.specs.Record.{askedView, askedRecord};
+ghost use Rattle.om3.specs.RecordCalls.{askingView, asking};
 ghost use Rattle.view.specs.View.{viewPlaces, viewOf};
 
 // A record's bytes, and how many coefficients it has. An enum that holds a reference is not in the language, so `open`
@@ -35,14 +35,15 @@ pub fn open<'a>(bytes: &'a [u8]) -> View<'a>
 
 // The coefficient at a place of a view. Refusals in the order 13, 8; the second comes for no view that `open` gives.
 pub fn ask<'a>(view: View<'a>, place: usize) -> Asking
-    ensures { λ r. ⌜ r ≡ askedView (now (view .entry .bytes)) (view .entry .places) place ⌝ }
+    ensures { λ r. ⌜ r ≡ askingView (now (view .entry .bytes)) (view .entry .places) place ⌝ }
 {
     opening::ask(view.bytes, view.places, place)
 }
 
-// Opens a view of these bytes and asks it once: 13 for each place of bytes that opening refuses.
-pub fn ask_once(bytes: &[u8], place: usize) -> Asking
-    ensures { λ r. ⌜ r ≡ askedView (now (bytes .entry)) (viewPlaces (now (bytes .entry))) place ⌝ }
+// Opens the view of these bytes and asks it. For `ask_record` alone, which has made the checks of opening: why opening
+// refuses, a view cannot tell.
+fn ask_once(bytes: &[u8], place: usize) -> Asking
+    ensures { λ r. ⌜ r ≡ askingView (now (bytes .entry)) (viewPlaces (now (bytes .entry))) place ⌝ }
 {
     ask(open(bytes), place)
 }
@@ -50,7 +51,7 @@ pub fn ask_once(bytes: &[u8], place: usize) -> Asking
 // Opens a record and asks its view. Refusals of opening, then 13. The view opens the bytes once more: one made here, of
 // the places that are known by then, would be one more function to walk by hand.
 pub fn ask_record(bytes: &[u8], place: usize) -> Asking
-    ensures { λ r. ⌜ r ≡ askedRecord (now (bytes .entry)) place ⌝ }
+    ensures { λ r. ⌜ r ≡ asking (now (bytes .entry)) place ⌝ }
 {
     match opening::open_record(bytes) {
         Opening::Record { .. } => ask_once(bytes, place),

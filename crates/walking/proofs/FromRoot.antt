@@ -1,4 +1,4 @@
--- The walk from the root values: node 0 is examined first, and a walk from node 1 is over the whole table. Assumes
+-- The visit from the root values: node 0 is examined first, and a visit from node 1 is over the whole table. Assumes
 -- nothing.
 use mathlib.Core.Path.{_≡_, refl, _∙_}
 use mathlib.Core.List.{List}
@@ -15,21 +15,21 @@ use Rattle.om3.specs.Down.{rootRange}
 use Rattle.om3.specs.Checks.{inOrder}
 use Rattle.om3.specs.Sound.{soundRootValues, examine}
 use Rattle.om3.specs.Stopped.{outer, innerNodes}
+use Rattle.sizes.specs.Lent.{TableLent}
 use Rattle.om3.proofs.Levels.{2≤P, P-even}
-use Rattle.om3.proofs.Located.{root-located}
+use Rattle.node.proofs.Located.{root-located}
 use Rattle.om3.proofs.BelowOpened.{visited-root}
 use Rattle.node.specs.declared.Root.{Root}
 use Rattle.node.specs.Steps.{rootOf}
-use Rattle.om3.specs.Refusals.{TableLent}
 use Rattle.turning.proofs.Answers.{Rooted, rooted, not-rooted}
 use Rattle.turning.proofs.AtRoot.{root-readings, root-reached}
 use Rattle.walking.specs.Nodes.{At, Below}
 use Rattle.walking.specs.Seen.{seenOf, tableSeen}
-use Rattle.walking.specs.Walking.{WalkedFrom, TableWalked}
+use Rattle.walking.specs.Visiting.{VisitedFrom, TableVisited}
 use Rattle.walking.specs.declared.Reached.{Reached}
-use Rattle.walking.specs.declared.Walked.{Walked}
+use Rattle.walking.specs.declared.Visited.{Visited}
 use Rattle.walking.proofs.SeenTogether.{seen-same}
-use Rattle.walking.proofs.Walking.{not-through}
+use Rattle.walking.proofs.Visiting.{not-through}
 
 module _ (n : ℕ) (cs : List ℤ) (ks : List ℕ) (x : Column) (stop : ℕ) where
   abbrev l : ℕ
@@ -44,7 +44,7 @@ module _ (n : ℕ) (cs : List ℤ) (ks : List ℕ) (x : Column) (stop : ℕ) whe
   abbrev b : ℤ
   b = getD cs 1 (pos 0)
 
-  pub root-unsound : rootOf a b ≡ Root.Unsound → TableWalked n cs ks x stop (Walked.Unsound (record { 0 = 0 }))
+  pub root-unsound : rootOf a b ≡ Root.Unsound → TableVisited n cs ks x stop (Visited.Unsound (record { 0 = 0 }))
   unfolding examine inOrder
   root-unsound h =
       record {
@@ -81,14 +81,14 @@ module _ (n : ℕ) (cs : List ℤ) (ks : List ℕ) (x : Column) (stop : ℕ) whe
     unfolding outer innerNodes
     seen-table d = rw all-levels (seen-same refl refl (omega arith))
 
-    pub top-walked : (r : Walked) → WalkedFrom n cs ks x stop 0 top r → TableWalked n cs ks x stop r
+    pub top-visited : (r : Visited) → VisitedFrom n cs ks x stop 0 top r → TableVisited n cs ks x stop r
     unfolding examine inOrder
-    top-walked r W =
+    top-visited r W =
         record {
           few = λ s e. omega (arith, W .few s e);
           below = W .below;
           examined = λ d asked.
-              let w = W .walks l d root asked top-at (visited-root l T x d) in
+              let w = W .visits l d root asked top-at (visited-root l T x d) in
               rw (H .isSound) (rw all-levels at (w .examined));
-          saw = λ d asked s e. W .walks l d root asked top-at (visited-root l T x d) .saw s e ∙ seen-table d;
+          saw = λ d asked s e. W .visits l d root asked top-at (visited-root l T x d) .saw s e ∙ seen-table d;
         }

@@ -1,4 +1,4 @@
--- What is lent for a node is lent for a step down and for its halves, and for the inner nodes of two walks together.
+-- What is lent for a node is lent for a step down and for its halves, and for the inner nodes of two visits together.
 -- Assumes nothing.
 use mathlib.Core.Bool.{Bool, true, false, cond}
 use mathlib.Core.List.{List}
@@ -10,10 +10,10 @@ use lib.ListN.{length}
 use borrow.Author.Tests.{ltb-false}
 use Rattle.words.specs.declared.Range.{Range}
 use Rattle.om3.specs.Ranges.{Readings}
-use Rattle.om3.proofs.Rooms.{left-room, right-room, places-room}
+use Rattle.node.proofs.Rooms.{left-room, right-room, places-room}
 use Rattle.walking.specs.Nodes.{Below, isPairOf, leftReached, rightReached}
 use Rattle.walking.specs.Seen.{bothInner}
-use Rattle.walking.specs.Walking.{Steps, InnerBelow}
+use Rattle.walking.specs.Visiting.{Steps, InnerBelow}
 use Rattle.walking.specs.declared.Reached.{Reached}
 use Rattle.walking.specs.declared.Inner.{Inner}
 
@@ -53,7 +53,7 @@ module _ (cs : List ℤ) (ks : List ℕ) (at : Reached) (below : Below cs ks at)
       let one : 1 ≤ at .hours / 2 = omega arith in
       omega (arith, mul-le-mul-left (at .id .0 + 1) one, below .details)
 
--- The inner nodes of two walks.
+-- The inner nodes of two visits.
 module _ (cs : List ℤ) (ks : List ℕ) where
   pub alone-below : (b : Bool) (range : Range) (at : Reached) → Below cs ks at
       → InnerBelow cs ks (cond b (Inner.Nodes range at at) Inner.Nothing)

@@ -3,7 +3,7 @@ pub mod Stepping
 pub mod Lending
 pub mod Touching
 pub mod SeenTogether
-pub mod Walking
+pub mod Visiting
 pub mod Narrowing
 pub mod FromRoot
-pub mod Descending
+pub mod Walking

@@ -1,5 +1,5 @@
--- The narrowing of a walk: a record of what holds wherever it has come to, and how it goes on from there. A walk from
--- where it has come to is a walk from its start. Assumes nothing.
+-- The narrowing of a visit: a record of what holds wherever it has come to, and how it goes on from there. A visit from
+-- where it has come to is a visit from its start. Assumes nothing.
 use mathlib.Core.Path.{_≡_, refl}
 use mathlib.Core.Bool.{true, false, not}
 use mathlib.Core.List.{List}
@@ -14,26 +14,26 @@ use Rattle.om3.specs.Ranges.{Readings}
 use Rattle.om3.proofs.Tests.{and-right}
 use Rattle.node.specs.declared.Halves.{Halves}
 use Rattle.walking.specs.Nodes.{Below, leftReached, rightReached, touchesOf, insideOf, openedOf}
-use Rattle.walking.specs.Walking.{SteppedDown, WalkedFrom}
+use Rattle.walking.specs.Visiting.{SteppedDown, VisitedFrom}
 use Rattle.walking.specs.Narrowing.{EndsAt, SplitsAt}
 use Rattle.walking.specs.declared.Reached.{Reached}
-use Rattle.walking.specs.declared.Walked.{Walked}
+use Rattle.walking.specs.declared.Visited.{Visited}
 use Rattle.walking.proofs.Lending.{left-below, right-below}
-use Rattle.walking.proofs.Walking as walking
+use Rattle.walking.proofs.Visiting as walking
 
--- A node that is opened covers more hours than those where the walk stops.
+-- A node that is opened covers more hours than those where the visit stops.
 pub opened-hours : (x : Column) (stop : ℕ) (at : Reached) → 1 ≤ stop → openedOf x stop at ≡ true → 2 ≤ at .hours
 opened-hours x stop at one o =
     let wide = ltb-true stop (at .hours) (and-right (not (insideOf x at)) _ (and-right (touchesOf x at) _ o)) in
     omega arith
 
 module _ (n : ℕ) (cs : List ℤ) (ks : List ℕ) (x : Column) (stop c : ℕ) (start : Reached) where
-  -- Where the walk has come to: a node that is lent, with room to count, from which a walk is one from the start.
+  -- Where the visit has come to: a node that is lent, with room to count, from which a visit is one from the start.
   pub record CameTo (at : Reached) (opened : ℕ) : Type 0 where
     pub below : Below cs ks at
     pub room : opened + at .hours ≤ 2 * length ks
     pub within : at .hours ≤ start .hours
-    pub rest : (r : Walked) → WalkedFrom n cs ks x stop opened at r → WalkedFrom n cs ks x stop c start r
+    pub rest : (r : Visited) → VisitedFrom n cs ks x stop opened at r → VisitedFrom n cs ks x stop c start r
 
   pub at-start : Below cs ks start → c + start .hours ≤ 2 * length ks → CameTo start c
   at-start b m = record { below = b; room = m; within = omega arith; rest = λ r w. w }
@@ -47,7 +47,7 @@ module _ (n : ℕ) (cs : List ℤ) (ks : List ℕ) (x : Column) (stop c : ℕ) (
     abbrev lent : Below cs ks at
     lent = came .below
 
-    pub unsound : SteppedDown n cs ks at Halves.Unsound → WalkedFrom n cs ks x stop c start (Walked.Unsound (at .id))
+    pub unsound : SteppedDown n cs ks at Halves.Unsound → VisitedFrom n cs ks x stop c start (Visited.Unsound (at .id))
     unsound step = came .rest _ (walking.node-unsound n cs ks x stop opened at o two lent step)
 
     module _ (r q : Range) (step : SteppedDown n cs ks at (Halves.Sound r q)) where

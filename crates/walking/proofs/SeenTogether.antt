@@ -7,11 +7,11 @@ use Prim.Native.Nat.{ℕ}
 use Rattle.words.specs.declared.Column.{Column}
 use Rattle.words.specs.declared.Range.{Range}
 use Rattle.words.specs.declared.Range.the-variants.{Empty}
+use Rattle.om3.specs.Lists.{lastOf}
 use Rattle.om3.specs.Nodes.{Node}
 use Rattle.om3.specs.Table.{Table}
 use Rattle.om3.specs.Down.{reached}
 use Rattle.om3.specs.Stopped.{rangeOver}
-use Rattle.om3.specs.Finished.{lastOr}
 use Rattle.om3.proofs.Ranges.{both-empty}
 use Rattle.om3.proofs.BelowOpened.{range-append}
 use Rattle.walking.specs.Nodes.{reachedOf, At, touchesOf}
@@ -33,8 +33,8 @@ at-same here =
     let w = sym (here .located .covers) in
     λ k. record { id = record { 0 = i k }; from = record { 0 = f k }; hours = w k; range = here .range k }
 
-last-append : (v u : Node) (vs us : List Node) → lastOr v (vs ++ u ∷ us) ≡ lastOr u us
-unfolding lastOr
+last-append : (v u : Node) (vs us : List Node) → lastOf v (vs ++ u ∷ us) ≡ lastOf u us
+unfolding lastOf
 last-append v u [] us = refl
 last-append v u (w ∷ vs) us = last-append w u vs us
 
@@ -51,7 +51,7 @@ module _ (l : ℕ) (t : Table) where
   -- A node alone.
   pub inner-alone : (b : Bool) (v : Node) {at : Reached} → At l t v at
       → cond b (Inner.Nodes (at .range) at at) Inner.Nothing ≡ innerOver l t (cond b (v ∷ []) [])
-  unfolding rangeOver lastOr
+  unfolding rangeOver lastOf
   inner-alone true v {at} here =
       let e = here .range ∙ sym (both-empty (reached l t v)) in
       let f = at-same here in

@@ -17,7 +17,7 @@ use Rattle.om3.specs.Down.{firstOfPair, secondOfPair}
 use Rattle.om3.specs.Sound.{soundCode, gapFrom}
 use Rattle.om3.proofs.Tests.{and-left}
 use Rattle.om3.proofs.Nodes.{pair-yes, pair-no}
-use Rattle.om3.proofs.Located.{above-pairs, at-pair}
+use Rattle.node.proofs.Located.{above-pairs, at-pair}
 use Rattle.om3.proofs.Reached.{reached-left, reached-right}
 use Rattle.om3.proofs.SoundCodes.{coded}
 use Rattle.node.specs.declared.Halves.{Halves}
@@ -26,7 +26,7 @@ use Rattle.turning.specs.Turning.{pairAt}
 use Rattle.turning.proofs.Answers.{stepped}
 use Rattle.turning.proofs.Examining.{code-index, sound-pair, sound-node, left-readings, right-readings}
 use Rattle.walking.specs.Nodes.{At}
-use Rattle.walking.specs.Walking.{halvesAt, SteppedDown}
+use Rattle.walking.specs.Visiting.{halvesAt, SteppedDown}
 use Rattle.walking.specs.declared.Reached.{Reached}
 
 module _ (n : ℕ) (cs : List ℤ) (ks : List ℕ) (i : NodeId) (t : Timestamp) (w : ℕ) (range : Range) where

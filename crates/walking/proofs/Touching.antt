@@ -15,10 +15,10 @@ use Rattle.om3.specs.Table.{Table}
 use Rattle.om3.specs.Down.{reached}
 use Rattle.om3.specs.Stopped.{hasReading, shares, inside, opened}
 use Rattle.om3.proofs.Tests.{and-left, and-right, both-true, below-or-not}
-use Rattle.om3.proofs.Located.{left-located, right-located}
+use Rattle.node.proofs.Located.{left-located, right-located}
 use Rattle.om3.proofs.Intervals.{shares-overlap, overlap-shares, inside-within, within-inside}
 use Rattle.walking.specs.Nodes.{At, leftReached, rightReached, touchesOf, insideOf, openedOf}
-use Rattle.walking.specs.Walking.{StopsAt}
+use Rattle.walking.specs.Visiting.{StopsAt}
 use Rattle.walking.specs.declared.Reached.{Reached}
 
 -- Two tests that imply each other are the same.

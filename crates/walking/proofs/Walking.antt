@@ -1,266 +1,200 @@
--- What the walk below a node promises, for each way it can go on: the node is not opened, it is unsound, or it is sound
--- and both its halves are walked, one of which may add nothing. Assumes nothing.
+-- What the walk from a node promises, for each way it can go on: the node is a single hour, it is unsound, or it is
+-- sound and the walk goes on with the half that it takes. Assumes nothing.
 use mathlib.Core.Path.{_≡_, refl, sym, ap, _∙_}
-use mathlib.Core.Bool.{true, false, _&&_}
-use mathlib.Core.List.{List, [], _∷_, _++_, map, map-append}
+use mathlib.Core.Bool.{true, false}
+use mathlib.Core.List.{List, _∷_}
+use mathlib.Core.Logic.{⊎-elim}
 use Prim.Native.Nat.{ℕ, suc, _+_, _-_, _≤_}
 use native.Mathlib.Omega.{arith}
 use lib.IntN.{ℤ}
-use lib.ListN.{length-append}
+use Rattle.signed.proofs.Rules.{signed}
+use Rattle.words.specs.Said.{lowOf}
 use Rattle.words.specs.declared.Column.{Column}
 use Rattle.words.specs.declared.NodeId.{NodeId}
 use Rattle.words.specs.declared.Range.{Range}
-use Rattle.om3.specs.Lists.{keep}
+use Rattle.words.specs.declared.Range.the-variants.{Empty, Held}
+use Rattle.words.specs.declared.Reading.{Reading}
 use Rattle.om3.specs.Nodes.{Node, number, left, right}
+use Rattle.om3.specs.Ranges.{Readings}
 use Rattle.om3.specs.Table.{Table, lent}
 use Rattle.om3.specs.Down.{reached}
-use Rattle.om3.specs.Checks.{Check, andThen, inOrder}
-use Rattle.om3.specs.Sound.{soundNode, nodesBelow, examineNode, examineNodes}
-use Rattle.om3.specs.Stopped.{hasReading, shares, inside, opened, visited, isOuter, isInner}
-use Rattle.om3.proofs.Located.{one-more}
-use Rattle.om3.proofs.Examined.{in-order-append}
-use Rattle.om3.proofs.BelowOpened.{visited-left, visited-right, opened-kept, unopened-kept, outer-kept, outer-end}
-use Rattle.om3.proofs.BelowOpened.{inner-kept, inner-end, range-append}
+use Rattle.om3.specs.Checks.{inOrder}
+use Rattle.om3.specs.Sound.{soundNode}
+use Rattle.om3.specs.Finished.{walkNodes, walkEnd, readingAt}
+use Rattle.om3.proofs.Tests.{below-or-not}
+use Rattle.om3.proofs.Nodes.{width-half, start-hour}
+use Rattle.om3.proofs.Intervals.{width-some}
+use Rattle.node.proofs.Located.{above-hours}
 use Rattle.node.specs.declared.Halves.{Halves}
 use Rattle.turning.proofs.Answers.{Stepped, stepped, not-stepped}
-use Rattle.walking.specs.Nodes.{At, Below, leftReached, rightReached, touchesOf, insideOf, openedOf}
-use Rattle.walking.specs.Seen.{unopenedOf, bothSeen, seenOf}
-use Rattle.walking.specs.Walking.{SteppedDown, StopsAt, Walks, WalkedFrom}
+use Rattle.walking.specs.Nodes.{At, Below, leftReached, rightReached}
+use Rattle.walking.specs.Visiting.{SteppedDown}
+use Rattle.walking.specs.Walking.{takesLeft, towards, Walks, Small, WalkedFrom}
 use Rattle.walking.specs.declared.Reached.{Reached}
-use Rattle.walking.specs.declared.Seen.{Seen}
+use Rattle.walking.specs.declared.Towards.{Towards}
 use Rattle.walking.specs.declared.Walked.{Walked}
-use Rattle.walking.proofs.Lending.{left-below, right-below, alone-below, both-below}
-use Rattle.walking.proofs.Touching.{touches-is, inside-is, opened-is, left-at, right-at}
-use Rattle.walking.proofs.SeenTogether.{seen-same, inner-append, inner-alone, outer-alone, nothing-before}
-use Rattle.walking.proofs.SeenTogether.{nothing-after}
+use Rattle.walking.proofs.Touching.{left-at, right-at}
+use Rattle.walking.proofs.Lending.{left-below, right-below}
 
-through-same : {a b : Seen} → Walked.Through a ≡ Walked.Through b → a ≡ b
-through-same e = cc
+not-came : {i : NodeId} {r : Reading} {m : ℕ} → Walked.Unsound i ≡ Walked.Came r m → ⊥
+not-came e = let z : _≡_ {A = ℕ} 0 1 = cc in omega arith
 
-pub not-through : {i : NodeId} {s : Seen} → Walked.Unsound i ≡ Walked.Through s → ⊥
-not-through e = let z : _≡_ {A = ℕ} 0 1 = cc in omega arith
+came-same : {r q : Reading} {m k : ℕ} → Walked.Came r m ≡ Walked.Came q k → (r ≡ q) × (m ≡ k)
+came-same e = (cc, cc)
 
-module _ (n : ℕ) (cs : List ℤ) (ks : List ℕ) (x : Column) (stop : ℕ) where
+-- The half that is taken, by what is reached at both.
+taken-left : (l : ℕ) (t : Table) (w : Towards) (v : Node)
+    → takesLeft w (reached l t (left v)) (reached l t (right v)) ≡ true → towards l t w v ≡ left v
+taken-left l t Towards.First v e = rw e
+taken-left l t Towards.Last v e = rw e
+
+taken-right : (l : ℕ) (t : Table) (w : Towards) (v : Node)
+    → takesLeft w (reached l t (left v)) (reached l t (right v)) ≡ false → towards l t w v ≡ right v
+taken-right l t Towards.First v e = rw e
+taken-right l t Towards.Last v e = rw e
+
+-- The low of a range of readings is small; so is the gap mark of an empty one.
+small-low : (r : Range) → Readings r → Small (lowOf r)
+small-low Empty p = omega signed
+small-low (Held a b) p = omega signed
+
+-- One level of a walk.
+module _ (half : Node → Node) (h k : ℕ) (v u : Node) (more : h ≡ suc k) (takes : half v ≡ u) where
+  walk-more : walkNodes half h v ≡ v ∷ walkNodes half k u
+  unfolding walkNodes
+  walk-more = rw (more, takes)
+
+  end-more : walkEnd half h v ≡ walkEnd half k u
+  unfolding walkEnd
+  end-more = rw (more, takes)
+
+module _ (n : ℕ) (cs : List ℤ) (ks : List ℕ) (w : Towards) where
   abbrev T : Table
   T = lent cs ks
 
   abbrev From : ℕ → Reached → Walked → Type 0
-  From c at r = WalkedFrom n cs ks x stop c at r
+  From c at r = WalkedFrom n cs ks w c at r
 
-  -- A node that is not opened.
-  module _ (c : ℕ) (at : Reached) (closed : openedOf x stop at ≡ false) where
-    module _ (l d : ℕ) (v : Node) (asked : StopsAt l d x stop) (here : At l T v at)
-        (seen : visited l T x d v ≡ true) where
-      not-opened : opened l T x d v ≡ false
-      not-opened = sym (opened-is here asked) ∙ closed
+  -- A single hour is its own end.
+  module _ (c : ℕ) (at : Reached) (below : Below cs ks at) (one : at .hours ≤ 1) where
+    single : (l : ℕ) (v : Node) → At l T v at → v .level ≡ l
+    single l v here =
+        let covers = here .located .covers in
+        let deep = here .located .deep in
+        let none : Column = record { from = at .from; upto = at .from } in
+        ⊎-elim (λ h. absurd (omega (arith, width-half l v h, width-some l none (left v))))
+        (λ h. omega arith)
+        (below-or-not (v .level) l)
 
-      none-opened : keep (opened l T x d) (nodesBelow (suc (l - v .level)) v) ≡ []
-      none-opened = let e = here .located .deep in unopened-kept l T x d _ v (omega arith) not-opened
+    abbrev reading : Reading
+    reading = record { hour = at .from; grams = lowOf (at .range) }
 
-      unopened-seen : unopenedOf x c at ≡ seenOf l T x d c v
-      unopened-seen =
-          let e = here .located .deep in
-          let h : v .level + (l - v .level) ≤ l = omega arith in
-          let touching = touches-is here x (asked .some) in
-          let A = hasReading l T v && shares l x v in
-          rw (
-            outer-end l T x d (l - v .level) v h seen not-opened,
-            inner-end l T x d (l - v .level) v h seen not-opened,
-            none-opened,
-            touching,
-            inside-is here x,
-          )
-          (seen-same (outer-alone l T A v (here .range)) (inner-alone l T (A && inside l x v) v here) (omega arith))
+    reading-same : (l : ℕ) (v : Node) → At l T v at → reading ≡ readingAt l T v
+    reading-same l v here =
+        let index = sym (here .located .begins) ∙ start-hour l v (single l v here) in
+        let low = ap lowOf (here .range) in
+        λ k. record { hour = record { 0 = index k }; grams = low k }
 
-      unopened-walks : Walks l n T x d c v (Walked.Through (unopenedOf x c at))
-      unopened-walks =
-          record {
-            examined = rw none-opened (unfold inOrder in refl);
-            saw = λ s e. sym (through-same e) ∙ unopened-seen;
-          }
-
-    pub unopened-walked : Below cs ks at → From c at (Walked.Through (unopenedOf x c at))
-    unopened-walked lent =
+    pub hour-came : From c at (Walked.Came reading c)
+    unfolding walkNodes walkEnd inOrder
+    hour-came =
         record {
-          below = λ s e.
-              rw (sym (through-same e))
-              (alone-below cs ks (touchesOf x at && insideOf x at) (at .range) at lent);
-          few = λ s e.
-              let z : s .opened ≡ c = ap (λ (u : Seen). u .opened) (sym (through-same e)) in
-              omega (arith, lent .some);
-          walks = unopened-walks;
-        }
-
-  -- A node that is opened.
-  module _ (c : ℕ) (at : Reached) (o : openedOf x stop at ≡ true) (two : 2 ≤ at .hours) (lent : Below cs ks at) where
-    module _ (l d : ℕ) (v : Node) (asked : StopsAt l d x stop) (here : At l T v at) where
-      is-opened : opened l T x d v ≡ true
-      is-opened = sym (opened-is here asked) ∙ o
-
-      abbrev below : Node → List Node
-      below u = nodesBelow (suc (l - u .level)) u
-
-      abbrev checks : Node → Check
-      checks u = examineNodes l n T (keep (opened l T x d) (below u))
-
-      opened-list : keep (opened l T x d) (below v)
-          ≡ v ∷ keep (opened l T x d) (below (left v)) ++ keep (opened l T x d) (below (right v))
-      opened-list = rw (one-more (here .located) two) (opened-kept l T x d _ v is-opened)
-
-      outer-list : keep (isOuter l T x d) (below v)
-          ≡ keep (isOuter l T x d) (below (left v)) ++ keep (isOuter l T x d) (below (right v))
-      outer-list = rw (one-more (here .located) two) (outer-kept l T x d _ v is-opened)
-
-      inner-list : keep (isInner l T x d) (below v)
-          ≡ keep (isInner l T x d) (below (left v)) ++ keep (isInner l T x d) (below (right v))
-      inner-list = rw (one-more (here .located) two) (inner-kept l T x d _ v is-opened)
-
-      -- It is examined first, then what is opened below its left half, then below its right half.
-      opened-checks : checks v
-          ≡ andThen (examineNode (number v) (soundNode l n T v)) (andThen (checks (left v)) (checks (right v)))
-      unfolding inOrder
-      opened-checks =
-          let L = keep (opened l T x d) (below (left v)) in
-          let R = keep (opened l T x d) (below (right v)) in
-          let one : Node → Check = λ u. examineNode (number u) (soundNode l n T u) in
-          rw opened-list
-          (ap (andThen (one v)) (ap inOrder (map-append one L R) ∙ in-order-append (map one L) (map one R)))
-
-      seen-both : (a b : Seen) → a ≡ seenOf l T x d (c + 1) (left v) → b ≡ seenOf l T x d (a .opened) (right v)
-          → bothSeen a b ≡ seenOf l T x d c v
-      seen-both a b p q =
-          let L = keep (opened l T x d) (below (left v)) in
-          let R = keep (opened l T x d) (below (right v)) in
-          rw (
-            opened-list,
-            outer-list,
-            inner-list,
-            range-append l T (keep (isOuter l T x d) (below (left v))) (keep (isOuter l T x d) (below (right v))),
-            q,
-            p,
-          )
-          (seen-same refl
-          (inner-append l T (keep (isInner l T x d) (below (left v))) (keep (isInner l T x d) (below (right v))))
-          (omega (arith, length-append L R)))
-
-    pub node-unsound : SteppedDown n cs ks at Halves.Unsound → From c at (Walked.Unsound (at .id))
-    node-unsound step =
-        record {
-          few = λ s e. absurd (not-through e);
-          below = λ s e. absurd (not-through e);
-          walks = λ l d v asked here seen.
-              let no = not-stepped (soundNode l n T v) _ _ (sym (step .halves l v here)) in
-              let same : number v ≡ at .id = ap (λ (k : ℕ). record { 0 = k }) (here .located .numbered) in
+          few = λ r m e. omega (arith, came-same e .1, below .some);
+          small = λ r m e. rw (sym (came-same e .0)) (small-low (at .range) (below .readings));
+          walks = λ l v here.
+              let z = single l v here in
+              let none : l - v .level ≡ 0 = omega arith in
               record {
-                examined = sym (opened-checks l d v asked here ∙ rw (no, same));
-                saw = λ s e. absurd (not-through e);
+                examined = rw none;
+                ends = λ r m e. rw none (sym (came-same e .0) ∙ reading-same l v here);
+                counted = λ r m e. omega (arith, came-same e .1);
               };
         }
 
-    -- It is sound, and these are its halves.
-    module _ (r q : Range) (step : SteppedDown n cs ks at (Halves.Sound r q)) where
-      abbrev first : Reached
-      first = leftReached at r
+  module _ (c : ℕ) (at : Reached) (two : 2 ≤ at .hours) where
+    one-more : (l : ℕ) (v : Node) → At l T v at → l - v .level ≡ suc (l - suc (v .level))
+    one-more l v here = let h = above-hours (here .located) two in omega arith
 
-      abbrev second : Reached
-      second = rightReached at q
+    pub node-unsound : SteppedDown n cs ks at Halves.Unsound → From c at (Walked.Unsound (at .id))
+    unfolding walkNodes inOrder
+    node-unsound step =
+        record {
+          few = λ r m e. absurd (not-came e);
+          small = λ r m e. absurd (not-came e);
+          walks = λ l v here.
+              let bad = not-stepped (soundNode l n T v) _ _ (sym (step .halves l v here)) in
+              let same : number v ≡ at .id = ap (λ (k : ℕ). record { 0 = k }) (here .located .numbered) in
+              record {
+                examined = rw (one-more l v here, bad, same);
+                ends = λ r m e. absurd (not-came e);
+                counted = λ r m e. absurd (not-came e);
+              };
+        }
 
-      first-lent : Below cs ks first
-      first-lent = left-below cs ks at lent two r (step .readings r q refl .0)
+    -- A sound node: the walk from the half that is taken is the rest of it.
+    module _ (a b : Range) (step : SteppedDown n cs ks at (Halves.Sound a b)) where
+      abbrev S : (l : ℕ) (v : Node) → At l T v at
+          → Stepped (soundNode l n T v) (reached l T (left v)) (reached l T (right v)) a b
+      S l v here =
+          stepped (soundNode l n T v) (reached l T (left v)) (reached l T (right v)) (sym (step .halves l v here))
 
-      second-lent : Below cs ks second
-      second-lent = right-below cs ks at lent two q (step .readings r q refl .1)
-
-      module _ (l d : ℕ) (v : Node) (asked : StopsAt l d x stop) (here : At l T v at) where
-        abbrev S : Stepped (soundNode l n T v) (reached l T (left v)) (reached l T (right v)) r q
-        S = stepped (soundNode l n T v) (reached l T (left v)) (reached l T (right v)) (sym (step .halves l v here))
-
-        abbrev left-here : At l T (left v) first
-        left-here = left-at here two (S .first)
-
-        abbrev right-here : At l T (right v) second
-        right-here = right-at here two (S .second)
-
-        left-visited : visited l T x d (left v) ≡ true
-        left-visited = visited-left l T x d v ∙ is-opened l d v asked here
-
-        right-visited : visited l T x d (right v) ≡ true
-        right-visited = visited-right l T x d v ∙ is-opened l d v asked here
-
-        halves-check : checks l d v asked here v
-            ≡ andThen (checks l d v asked here (left v)) (checks l d v asked here (right v))
-        halves-check = opened-checks l d v asked here ∙ rw (S .isSound)
-
-        left-walks : (z : Walked) → From (c + 1) first z → Walks l n T x d (c + 1) (left v) z
-        left-walks z F = F .walks l d (left v) asked left-here left-visited
-
-        right-walks : (m : ℕ) (z : Walked) → From m second z → Walks l n T x d m (right v) z
-        right-walks m z F = F .walks l d (right v) asked right-here right-visited
-
-      pub left-unsound : (i : NodeId) → From (c + 1) first (Walked.Unsound i) → From c at (Walked.Unsound i)
-      left-unsound i F =
+      goes-on : (l : ℕ) (v u : Node) → At l T v at → towards l T w v ≡ u
+          → u .level ≡ suc (v .level) → (r : Walked) → Walks l n T w (c + 1) u r → Walks l n T w c v r
+      unfolding inOrder
+      goes-on l v u here takes deeper r D =
+          let more : l - v .level ≡ suc (l - u .level) = let h = above-hours (here .located) two in omega arith in
           record {
-            few = λ s e. absurd (not-through e);
-            below = λ s e. absurd (not-through e);
-            walks = λ l d v asked here seen.
-                record {
-                  examined =
-                      sym (halves-check l d v asked here
-                      ∙ rw (sym (left-walks l d v asked here (Walked.Unsound i) F .examined)));
-                  saw = λ s e. absurd (not-through e);
-                };
+            examined =
+                rw (walk-more (towards l T w) _ _ v u more takes, S l v here .isSound) (D .examined);
+            ends = λ q m e. D .ends q m e ∙ sym (ap (readingAt l T) (end-more (towards l T w) _ _ v u more takes));
+            counted = λ q m e. omega (arith, D .counted q m e);
           }
 
-      module _ (a : Seen) (F : From (c + 1) first (Walked.Through a)) where
-        left-passes : (l d : ℕ) (v : Node) (asked : StopsAt l d x stop) (here : At l T v at)
-            → checks l d v asked here v ≡ checks l d v asked here (right v)
-        left-passes l d v asked here =
-            halves-check l d v asked here ∙ rw (sym (left-walks l d v asked here (Walked.Through a) F .examined))
+      pub goes-left : takesLeft w a b ≡ true → (r : Walked) → From (c + 1) (leftReached at a) r → From c at r
+      goes-left takes r D =
+          record {
+            few = λ q m e. omega (arith, D .few q m e);
+            small = D .small;
+            walks = λ l v here.
+                let s = S l v here in
+                let e = taken-left l T w v (rw (s .first, s .second) at takes) in
+                goes-on l v (left v) here e refl r (D .walks l (left v) (left-at here two (s .first)));
+          }
 
-        pub right-unsound : (i : NodeId) → From (a .opened) second (Walked.Unsound i) → From c at (Walked.Unsound i)
-        right-unsound i G =
-            record {
-              few = λ s e. absurd (not-through e);
-              below = λ s e. absurd (not-through e);
-              walks = λ l d v asked here seen.
-                  record {
-                    examined =
-                        right-walks l d v asked here (a .opened) (Walked.Unsound i) G .examined
-                        ∙ sym (left-passes l d v asked here);
-                    saw = λ s e. absurd (not-through e);
-                  };
-            }
+      pub goes-right : takesLeft w a b ≡ false → (r : Walked) → From (c + 1) (rightReached at b) r → From c at r
+      goes-right takes r D =
+          record {
+            few = λ q m e. omega (arith, D .few q m e);
+            small = D .small;
+            walks = λ l v here.
+                let s = S l v here in
+                let e = taken-right l T w v (rw (s .first, s .second) at takes) in
+                goes-on l v (right v) here e refl r (D .walks l (right v) (right-at here two (s .second)));
+          }
 
-        pub both-seen : (b : Seen) → From (a .opened) second (Walked.Through b)
-            → From c at (Walked.Through (bothSeen a b))
-        both-seen b G =
-            record {
-              few = λ s e.
-                  let z : s .opened ≡ b .opened = ap (λ (u : Seen). u .opened) (sym (through-same e)) in
-                  omega (arith, F .few a refl, G .few b refl);
-              below = λ s e.
-                  rw (sym (through-same e))
-                  (both-below cs ks (a .inner) (b .inner) (F .below a refl) (G .below b refl));
-              walks = λ l d v asked here seen.
-                  let L = left-walks l d v asked here (Walked.Through a) F in
-                  let R = right-walks l d v asked here (a .opened) (Walked.Through b) G in
-                  record {
-                    examined = R .examined ∙ sym (left-passes l d v asked here);
-                    saw = λ s e.
-                        sym (through-same e) ∙ seen-both l d v asked here a b (L .saw a refl) (R .saw b refl);
-                  };
-            }
+  -- Where a walk has come to: a node that is lent, from which a walk is one from the start.
+  pub record CameTo (start at : Reached) (c : ℕ) : Type 0 where
+    pub below : Below cs ks at
+    pub room : c + at .hours ≤ start .hours
+    pub rest : (r : Walked) → From c at r → From 0 start r
 
-      -- Only one half touches the column: the walk goes on with that one.
-      pub only-second : touchesOf x first ≡ false → (z : Walked) → From (c + 1) second z → From c at z
-      only-second apart (Walked.Unsound i) G =
-          right-unsound (unopenedOf x (c + 1) first) (unopened-walked (c + 1) first (rw apart) first-lent) i G
-      only-second apart (Walked.Through b) G =
-          let F = unopened-walked (c + 1) first (rw apart) first-lent in
-          rw (nothing-before x first apart (c + 1) b) at (both-seen (unopenedOf x (c + 1) first) F b G)
+  pub at-start : (start : Reached) → Below cs ks start → CameTo start start 0
+  at-start start b = record { below = b; room = omega arith; rest = λ r d. d }
 
-      pub only-first : touchesOf x second ≡ false → (z : Walked) → From (c + 1) first z → From c at z
-      only-first apart (Walked.Unsound i) F = left-unsound i F
-      only-first apart (Walked.Through a) F =
-          let G = unopened-walked (a .opened) second (rw apart) second-lent in
-          rw (nothing-after x second apart a) at (both-seen a F (unopenedOf x (a .opened) second) G)
+  module _ (start at : Reached) (c : ℕ) (came : CameTo start at c) (two : 2 ≤ at .hours) where
+    module _ (a b : Range) (step : SteppedDown n cs ks at (Halves.Sound a b)) where
+      pub came-left : takesLeft w a b ≡ true → CameTo start (leftReached at a) (c + 1)
+      came-left takes =
+          record {
+            below = left-below cs ks at (came .below) two a (step .readings a b refl .0);
+            room = omega (arith, came .room);
+            rest = λ r d. came .rest r (goes-left c at two a b step takes r d);
+          }
+
+      pub came-right : takesLeft w a b ≡ false → CameTo start (rightReached at b) (c + 1)
+      came-right takes =
+          record {
+            below = right-below cs ks at (came .below) two b (step .readings a b refl .1);
+            room = omega (arith, came .room);
+            rest = λ r d. came .rest r (goes-right c at two a b step takes r d);
+          }

@@ -1,6 +1,6 @@
 -- What going down a table for a column promises, in reading order.
 pub mod Nodes
 pub mod Seen
-pub mod Walking
+pub mod Visiting
 pub mod Narrowing
-pub mod Descending
+pub mod Walking

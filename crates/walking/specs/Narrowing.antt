@@ -1,7 +1,7 @@
--- What the narrowing of a walk promises. Cited by its contract. Assumes nothing.
+-- What the narrowing of a visit promises. Cited by its contract. Assumes nothing.
 --
 --   EndsAt at opened                it came to a node that is not opened
---   SplitsAt first second opened    it came to two halves that both are to be walked
+--   SplitsAt first second opened    it came to two halves that both are to be visited
 --   NarrowedFrom                    its contract
 use mathlib.Core.Path.{_≡_}
 use mathlib.Core.Bool.{false}
@@ -13,18 +13,18 @@ use Rattle.words.specs.declared.Column.{Column}
 use Rattle.words.specs.declared.NodeId.{NodeId}
 use Rattle.walking.specs.Nodes.{Below, openedOf}
 use Rattle.walking.specs.Seen.{bothSeen}
-use Rattle.walking.specs.Walking.{WalkedFrom}
+use Rattle.walking.specs.Visiting.{VisitedFrom}
 use Rattle.walking.specs.declared.Reached.{Reached}
 use Rattle.walking.specs.declared.Seen.{Seen}
-use Rattle.walking.specs.declared.Walked.{Walked}
+use Rattle.walking.specs.declared.Visited.{Visited}
 use Rattle.walking.specs.declared.Narrowed.{Narrowed}
 
 module _ (n : ℕ) (cs : List ℤ) (ks : List ℕ) (x : Column) (stop c : ℕ) (start : Reached) where
-  -- At a node that is not opened: a walk from there is one from the start.
+  -- At a node that is not opened: a visit from there is one from the start.
   pub record EndsAt (at : Reached) (opened : ℕ) : Type 0 where
     pub lent : Below cs ks at
     pub closed : openedOf x stop at ≡ false
-    pub rest : (r : Walked) → WalkedFrom n cs ks x stop opened at r → WalkedFrom n cs ks x stop c start r
+    pub rest : (r : Visited) → VisitedFrom n cs ks x stop opened at r → VisitedFrom n cs ks x stop c start r
 
   -- At two halves: what is seen in one and then in the other is seen from the start.
   pub record SplitsAt (first second : Reached) (opened : ℕ) : Type 0 where
@@ -33,17 +33,17 @@ module _ (n : ℕ) (cs : List ℤ) (ks : List ℕ) (x : Column) (stop c : ℕ) (
     pub room : opened + first .hours + second .hours ≤ 2 * length ks + 1
     pub less-first : first .hours < start .hours
     pub less-second : second .hours < start .hours
-    pub left-unsound : (i : NodeId) → WalkedFrom n cs ks x stop opened first (Walked.Unsound i)
-        → WalkedFrom n cs ks x stop c start (Walked.Unsound i)
-    pub right-unsound : (a : Seen) → WalkedFrom n cs ks x stop opened first (Walked.Through a)
-        → (i : NodeId) → WalkedFrom n cs ks x stop (a .opened) second (Walked.Unsound i)
-        → WalkedFrom n cs ks x stop c start (Walked.Unsound i)
-    pub both-seen : (a : Seen) → WalkedFrom n cs ks x stop opened first (Walked.Through a)
-        → (b : Seen) → WalkedFrom n cs ks x stop (a .opened) second (Walked.Through b)
-        → WalkedFrom n cs ks x stop c start (Walked.Through (bothSeen a b))
+    pub left-unsound : (i : NodeId) → VisitedFrom n cs ks x stop opened first (Visited.Unsound i)
+        → VisitedFrom n cs ks x stop c start (Visited.Unsound i)
+    pub right-unsound : (a : Seen) → VisitedFrom n cs ks x stop opened first (Visited.Through a)
+        → (i : NodeId) → VisitedFrom n cs ks x stop (a .opened) second (Visited.Unsound i)
+        → VisitedFrom n cs ks x stop c start (Visited.Unsound i)
+    pub both-seen : (a : Seen) → VisitedFrom n cs ks x stop opened first (Visited.Through a)
+        → (b : Seen) → VisitedFrom n cs ks x stop (a .opened) second (Visited.Through b)
+        → VisitedFrom n cs ks x stop c start (Visited.Through (bothSeen a b))
 
   -- For each answer of the narrowing.
   abbrev pub NarrowedFrom : Narrowed → Type 0
-  NarrowedFrom (Narrowed.Unsound i) = WalkedFrom n cs ks x stop c start (Walked.Unsound i)
+  NarrowedFrom (Narrowed.Unsound i) = VisitedFrom n cs ks x stop c start (Visited.Unsound i)
   NarrowedFrom (Narrowed.Ended at opened) = EndsAt at opened
   NarrowedFrom (Narrowed.Split first second opened) = SplitsAt first second opened

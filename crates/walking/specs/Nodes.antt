@@ -18,10 +18,11 @@ use lib.ListN.{length}
 use Rattle.words.specs.declared.Column.{Column}
 use Rattle.words.specs.declared.Range.{Range}
 use Rattle.om3.specs.Series.{hour}
-use Rattle.om3.specs.Nodes.{Node, number, width, firstHour, Located}
+use Rattle.om3.specs.Nodes.{Node, number, width, firstHour}
 use Rattle.om3.specs.Ranges.{isEmpty, Readings}
 use Rattle.om3.specs.Table.{Table}
 use Rattle.om3.specs.Down.{reached}
+use Rattle.node.specs.Located.{Located}
 use Rattle.walking.specs.declared.Reached.{Reached}
 
 -- Node v as the code carries it: its number, its first hour, how many hours it covers, and its range.

@@ -1,4 +1,4 @@
--- What is seen at the nodes of a column. Cited by what the walk promises. Assumes nothing.
+-- What is seen at the nodes of a column. Cited by what the visit promises. Assumes nothing.
 --
 --   unopenedOf x c at        what is seen at a node that is not opened, with c nodes opened before
 --   bothInner, bothSeen      what is seen in the left half and then in the right half
@@ -11,13 +11,12 @@ use Prim.Native.Nat.{ℕ, suc, _+_, _-_}
 use lib.ListN.{length}
 use Rattle.words.specs.declared.Column.{Column}
 use Rattle.words.specs.declared.Range.the-variants.{Empty}
-use Rattle.om3.specs.Lists.{keep}
+use Rattle.om3.specs.Lists.{keep, lastOf}
 use Rattle.om3.specs.Nodes.{Node}
 use Rattle.om3.specs.Ranges.{both}
 use Rattle.om3.specs.Table.{Table}
 use Rattle.om3.specs.Sound.{nodesBelow}
 use Rattle.om3.specs.Stopped.{opened, openedNodes, rangeOver, isOuter, outer, isInner, innerNodes}
-use Rattle.om3.specs.Finished.{lastOr}
 use Rattle.walking.specs.Nodes.{reachedOf, touchesOf, insideOf}
 use Rattle.walking.specs.declared.Reached.{Reached}
 use Rattle.walking.specs.declared.Inner.{Inner}
@@ -49,7 +48,7 @@ bothSeen a b = record {
 -- The nodes of an inner range: the range over them, the first and the last.
 abbrev pub innerOver : ℕ → Table → List Node → Inner
 innerOver l t [] = Inner.Nothing
-innerOver l t (v ∷ vs) = Inner.Nodes (rangeOver l t (v ∷ vs)) (reachedOf l t v) (reachedOf l t (lastOr v vs))
+innerOver l t (v ∷ vs) = Inner.Nodes (rangeOver l t (v ∷ vs)) (reachedOf l t v) (reachedOf l t (lastOf v vs))
 
 module _ (l : ℕ) (t : Table) (x : Column) where
   -- At node v and below it, at depth d: the outer range, the inner nodes, and the opened nodes beside the c before.

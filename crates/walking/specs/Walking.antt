@@ -1,97 +1,63 @@
--- What a step down and the walk over opened nodes promise. Cited by the contracts of this crate and of the columns.
--- Assumes nothing.
+-- What the walk to the first or to the last reading promises. Cited by the contracts of this crate and of the
+-- columns. Assumes nothing.
 --
---   halvesAt l n t v         the halves of node v if it is sound; SteppedDown, what a step from there answers
---   Steps                    what a step needs of a node, whatever its hours; SteppedFrom, its contract
---   walkCheck r              what a walk says, as a check
---   StopsAt l d x stop       the walk is for depth d, whose nodes cover `stop` hours, and a column x that has an hour
---   Walks                    what a walk says of node v and the nodes below it
---   InnerBelow cs ks i       the first and the last node of an inner range are lent, with all below them
---   WalkedFrom               the contract of the walk below a node; TableWalked, of that from the root values
+--   takesLeft       whether the walk takes the left of two halves with these ranges
+--   towards l t w   the half that it takes at a node
+--   walkCheck r     what a walk says, as a check
+--   Small z         z is from −1,000,000 to 2,000,003: readings and the gap mark are
+--   Walks           what a walk says of node v
+--   WalkedFrom      the contract of the walk from a node, c levels below where it began
 use mathlib.Core.Path.{_≡_}
-use mathlib.Core.Bool.{Bool, true, false, cond}
+use mathlib.Core.Bool.{Bool, not}
 use mathlib.Core.List.{List}
-use Prim.Native.Nat.{ℕ, suc, _+_, _*_, _-_, _^_, _≤_, _<_}
-use lib.IntN.{ℤ}
-use lib.ListN.{length}
-use Rattle.words.specs.declared.Column.{Column}
-use Rattle.words.specs.declared.NodeId.{NodeId}
-use Rattle.words.specs.declared.Timestamp.{Timestamp}
+use Prim.Native.Nat.{ℕ, _+_, _-_, _≤_}
+use lib.IntN.{ℤ, pos, negℤ}
+use lib.Signed.{_≤ℤ_}
+use Rattle.words.specs.Constants.{largestReading, gap}
 use Rattle.words.specs.declared.Range.{Range}
+use Rattle.words.specs.declared.Reading.{Reading}
 use Rattle.words.specs.declared.Refusal.the-variants as refusal
-use Rattle.om3.specs.Lists.{keep}
-use Rattle.om3.specs.Series.{levels, P}
-use Rattle.om3.specs.Nodes.{Node, left, right}
-use Rattle.om3.specs.Ranges.{Readings}
+use Rattle.om3.specs.Nodes.{Node}
+use Rattle.om3.specs.Ranges.{isEmpty}
 use Rattle.om3.specs.Table.{Table, lent}
-use Rattle.om3.specs.Down.{reached}
 use Rattle.om3.specs.Checks.{Check, passes, refuses}
-use Rattle.om3.specs.Sound.{soundNode, nodesBelow, examine, examineNodes}
-use Rattle.om3.specs.Stopped.{opened, openedNodes, visited}
-use Rattle.node.specs.declared.Halves.{Halves}
-use Rattle.walking.specs.Nodes.{At, Below, isPairOf}
-use Rattle.walking.specs.Seen.{seenOf, tableSeen}
+use Rattle.om3.specs.Sound.{examineNodes}
+use Rattle.om3.specs.Finished.{walkNodes, walkEnd, towardsFirst, towardsLast, readingAt}
+use Rattle.walking.specs.Nodes.{At}
 use Rattle.walking.specs.declared.Reached.{Reached}
-use Rattle.walking.specs.declared.Inner.{Inner}
-use Rattle.walking.specs.declared.Seen.{Seen}
+use Rattle.walking.specs.declared.Towards.{Towards}
 use Rattle.walking.specs.declared.Walked.{Walked}
 
--- A sound node's halves have the ranges reached there.
-abbrev pub halvesAt : (l n : ℕ) → Table → Node → Halves
-halvesAt l n t v =
-    cond (soundNode l n t v) (Halves.Sound (reached l t (left v)) (reached l t (right v))) Halves.Unsound
+-- To the first the left half if it has a reading, else the right; to the last the other way round. [columns 17]
+abbrev pub takesLeft : Towards → Range → Range → Bool
+takesLeft Towards.First left right = not (isEmpty left)
+takesLeft Towards.Last left right = isEmpty right
 
--- A step down answers them, ranges of readings, or that the node is unsound.
-pub record SteppedDown (n : ℕ) (cs : List ℤ) (ks : List ℕ) (at : Reached) (r : Halves) : Type 0 where
-  pub halves : (l : ℕ) (v : Node) → At l (lent cs ks) v at → r ≡ halvesAt l n (lent cs ks) v
-  pub readings : (a b : Range) → r ≡ Halves.Sound a b → Readings a × Readings b
+-- The half that it takes at a node. [columns 17]
+abbrev pub towards : ℕ → Table → Towards → Node → Node
+towards l t Towards.First = towardsFirst l t
+towards l t Towards.Last = towardsLast l t
 
--- It needs a range of readings, and the code of a pair or the details of another node in the buffers.
-pub record Steps (cs : List ℤ) (ks : List ℕ) (i : NodeId) (t : Timestamp) (pair : Bool) (range : Range) : Type 0 where
-  pub readings : Readings range
-  pub code : pair ≡ true → t .0 + 2 ≤ 2 * length ks
-  pub details : pair ≡ false → 2 * i .0 + 2 ≤ length cs
-
--- It answers for every node of two hours or more that has these parts.
-abbrev pub SteppedFrom : ℕ → List ℤ → List ℕ → NodeId → Timestamp → Bool → Range → Halves → Type 0
-SteppedFrom n cs ks i t pair range r =
-    (w : ℕ) → 2 ≤ w → pair ≡ isPairOf w
-    → SteppedDown n cs ks (record { id = i; from = t; hours = w; range = range }) r
-
--- A walk is through exactly if the nodes that it opened are sound. [refusals 4]
+-- A walk comes to its reading exactly if the nodes on its way are sound. [refusals 4]
 abbrev pub walkCheck : Walked → Check
 walkCheck (Walked.Unsound i) = refuses (refusal.Unsound i)
-walkCheck (Walked.Through s) = passes
+walkCheck (Walked.Came reading levels) = passes
 
--- Nodes of level d cover 2^(l−d) hours; only nodes that cover more are of a level below d. [columns 7]
-pub record StopsAt (l d : ℕ) (x : Column) (stop : ℕ) : Type 0 where
-  pub deep : d ≤ l
-  pub stops : stop ≡ 2 ^ (l - d)
-  pub some : x .from .0 < x .upto .0
+-- From node v it goes l minus its level down, through the nodes of the walk, to the reading at its end.
+-- [columns 15, 16, 17]
+pub record Walks (l n : ℕ) (t : Table) (w : Towards) (c : ℕ) (v : Node) (r : Walked) : Type 0 where
+  pub examined : walkCheck r ≡ examineNodes l n t (walkNodes (towards l t w) (l - v .level) v)
+  pub ends : (reading : Reading) (levels : ℕ) → r ≡ Walked.Came reading levels
+      → reading ≡ readingAt l t (walkEnd (towards l t w) (l - v .level) v)
+  pub counted : (reading : Reading) (levels : ℕ) → r ≡ Walked.Came reading levels → levels ≡ c + (l - v .level)
 
--- The opened nodes are examined in their order; where all are sound, this is what was seen. [columns 10, 11, 16]
-pub record Walks (l n : ℕ) (t : Table) (x : Column) (d c : ℕ) (v : Node) (r : Walked) : Type 0 where
-  pub examined : walkCheck r ≡ examineNodes l n t (keep (opened l t x d) (nodesBelow (suc (l - v .level)) v))
-  pub saw : (s : Seen) → r ≡ Walked.Through s → s ≡ seenOf l t x d c v
+-- Far from the ends of 32 bits.
+abbrev pub Small : ℤ → Type 0
+Small z = (negℤ (pos largestReading) ≤ℤ z) × (z ≤ℤ gap)
 
--- The first and the last inner node are lent, with all below them.
-abbrev pub InnerBelow : List ℤ → List ℕ → Inner → Type 0
-InnerBelow cs ks Inner.Nothing = Unit
-InnerBelow cs ks (Inner.Nodes range first last) = Below cs ks first × Below cs ks last
-
--- Below a visited node; no more nodes are opened than it covers hours, less one.
-pub record WalkedFrom (n : ℕ) (cs : List ℤ) (ks : List ℕ) (x : Column) (stop c : ℕ) (at : Reached) (r : Walked)
+-- It goes down no more levels than the node covers hours, less one.
+pub record WalkedFrom (n : ℕ) (cs : List ℤ) (ks : List ℕ) (w : Towards) (c : ℕ) (at : Reached) (r : Walked)
     : Type 0 where
-  pub few : (s : Seen) → r ≡ Walked.Through s → s .opened + 1 ≤ c + at .hours
-  pub below : (s : Seen) → r ≡ Walked.Through s → InnerBelow cs ks (s .inner)
-  pub walks : (l d : ℕ) (v : Node) → StopsAt l d x stop → At l (lent cs ks) v at → visited l (lent cs ks) x d v ≡ true
-      → Walks l n (lent cs ks) x d c v r
-
--- From the root values: node 0 is examined first, and node 1 is visited. [columns 8, 16]
-pub record TableWalked (n : ℕ) (cs : List ℤ) (ks : List ℕ) (x : Column) (stop : ℕ) (r : Walked) : Type 0 where
-  pub few : (s : Seen) → r ≡ Walked.Through s → s .opened < P n
-  pub below : (s : Seen) → r ≡ Walked.Through s → InnerBelow cs ks (s .inner)
-  pub examined : (d : ℕ) → StopsAt (levels n) d x stop
-      → walkCheck r ≡ examine (levels n) n (lent cs ks) (openedNodes (levels n) (lent cs ks) x d)
-  pub saw : (d : ℕ) → StopsAt (levels n) d x stop → (s : Seen) → r ≡ Walked.Through s
-      → s ≡ tableSeen (levels n) (lent cs ks) x d
+  pub few : (reading : Reading) (levels : ℕ) → r ≡ Walked.Came reading levels → levels + 1 ≤ c + at .hours
+  pub small : (reading : Reading) (levels : ℕ) → r ≡ Walked.Came reading levels → Small (reading .grams)
+  pub walks : (l : ℕ) (v : Node) → At l (lent cs ks) v at → Walks l n (lent cs ks) w c v r

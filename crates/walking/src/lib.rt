@@ -1,5 +1,5 @@
-// Going down a table for a column: one examined step from a node to its halves, the walk over the nodes that the column
-// opens, and the descent to its first or to its last reading.
+// Going down a table for a column: one examined step from a node to its halves, the visit of the nodes that the column
+// opens, and the walk to its first or to its last reading.
 mod by_parts;
 mod nodes;
 mod sight;
@@ -14,11 +14,11 @@ use words::Timestamp;
 ghost use mathlib.Core.Path.{_≡_};
 ghost use Prim.Native.Nat.{_+_, _*_, _≤_};
 ghost use lib.ListN.{length};
-ghost use Rattle.om3.specs.Refusals.{TableLent};
+ghost use Rattle.sizes.specs.Lent.{TableLent};
 ghost use Rattle.walking.specs.Nodes.{Below};
-ghost use Rattle.walking.specs.Walking.{Steps, SteppedFrom, WalkedFrom, TableWalked};
+ghost use Rattle.walking.specs.Visiting.{Steps, SteppedFrom, VisitedFrom, TableVisited};
 ghost use Rattle.walking.specs.Narrowing.{NarrowedFrom};
-ghost use Rattle.walking.specs.Descending.{takesLeft, DescendedFrom};
+ghost use Rattle.walking.specs.Walking.{takesLeft, WalkedFrom};
 
 // A node as it is reached by going down: its number, its first hour, how many hours it covers, and its range.
 pub struct Reached {
@@ -38,21 +38,21 @@ pub enum Inner {
     },
 }
 
-// What a walk has seen: the outer range, the nodes of the inner one, and how many nodes are opened by now.
+// What a visit has seen: the outer range, the nodes of the inner one, and how many nodes are opened by now.
 pub struct Seen {
     pub outer: Range,
     pub inner: Inner,
     pub opened: usize,
 }
 
-// A walk is through, or this is the first unsound node that it opened.
-pub enum Walked {
+// A visit is through, or this is the first unsound node that it opened.
+pub enum Visited {
     Unsound(NodeId),
     Through(Seen),
 }
 
-// Where a walk has come to that had one half to go on with at each node: to an unsound node, to one that is not opened,
-// or to two halves that both are to be walked.
+// Where a visit has come to that had one half to go on with at each node: to an unsound node, to one that is not
+// opened, or to two halves that both are to be visited.
 pub enum Narrowed {
     Unsound(NodeId),
     Ended {
@@ -66,14 +66,14 @@ pub enum Narrowed {
     },
 }
 
-// Which reading of a node a descent goes to.
+// Which reading of a node a walk goes to.
 pub enum Towards {
     First,
     Last,
 }
 
-// A descent has come to its reading, so many levels down, or this is the first unsound node on its way.
-pub enum Descended {
+// A walk has come to its reading, so many levels down, or this is the first unsound node on its way.
+pub enum Walked {
     Unsound(NodeId),
     Came { reading: Reading, levels: usize },
 }
@@ -86,15 +86,15 @@ fn step(
     coefficients: &[i32],
     codes: &[u8],
     i: NodeId,
-    t: Timestamp,
+    h: Timestamp,
     pair: bool,
     range: Range,
 ) -> Halves
-    requires { ⌜ Steps (now coefficients) (now codes) i t pair range ⌝ }
-    ensures { λ r. ⌜ SteppedFrom n (now (coefficients .entry)) (now (codes .entry)) i t pair range r ⌝ }
+    requires { ⌜ Steps (now coefficients) (now codes) i h pair range ⌝ }
+    ensures { λ r. ⌜ SteppedFrom n (now (coefficients .entry)) (now (codes .entry)) i h pair range r ⌝ }
 {
     if pair {
-        return turning::pair_halves(n, codes, t, range);
+        return turning::pair_halves(n, codes, h, range);
     }
     // The details of a node stand at the numbers of its halves.
     let left_number = 2 * i.0;
@@ -102,7 +102,7 @@ fn step(
     node::half_ranges(range, coefficients[left_number], coefficients[right_number])
 }
 
-// Walks from a node, opening each that is to be opened, as long as no more than one of the two halves touches the
+// Visits from a node on, opening each that is to be opened, as long as no more than one of the two halves touches the
 // column. The node's range is one of readings; its details and codes, and those below it, are there; not too many nodes
 // were opened before, and `stop` is 1 or more.
 fn narrow(
@@ -143,16 +143,16 @@ fn narrow(
             }
             at = second;
         } else {
-            // Where the left half does not touch the column either, the walk ends there with nothing added.
+            // Where the left half does not touch the column either, the visit ends there with nothing added.
             at = first;
         }
     }
     Narrowed::Ended { at, opened }
 }
 
-// Walks from a node over all nodes below it that the column opens: it calls itself on both halves wherever both touch
-// the column. What it needs of the node and of the rest is what narrowing needs. [forms 8]
-fn walk(
+// Visits a node and all nodes below it that the column opens or comes to: it calls itself on both halves wherever both
+// touch the column. What it needs of the node and of the rest is what narrowing needs. [forms 8]
+fn visit(
     n: usize,
     coefficients: &[i32],
     codes: &[u8],
@@ -160,43 +160,43 @@ fn walk(
     stop: usize,
     before: usize,
     start: Reached,
-) -> Walked
+) -> Visited
     requires { ⌜ Below (now coefficients) (now codes) start ⌝ }
     requires { ⌜ before + start .hours ≤ 2 * length (now codes) ⌝ }
     requires { ⌜ 1 ≤ stop ⌝ }
-    ensures { λ r. ⌜ WalkedFrom n (now (coefficients .entry)) (now (codes .entry)) x stop before start r ⌝ }
+    ensures { λ r. ⌜ VisitedFrom n (now (coefficients .entry)) (now (codes .entry)) x stop before start r ⌝ }
 {
     match narrow(n, coefficients, codes, x, stop, before, start) {
-        Narrowed::Unsound(i) => Walked::Unsound(i),
-        Narrowed::Ended { at, opened } => Walked::Through(sight::unopened(x, opened, at)),
+        Narrowed::Unsound(i) => Visited::Unsound(i),
+        Narrowed::Ended { at, opened } => Visited::Through(sight::unopened(x, opened, at)),
         Narrowed::Split {
             first,
             second,
             opened,
         } => {
-            let left = walk(n, coefficients, codes, x, stop, opened, first);
-            let Walked::Through(a) = left else {
+            let left = visit(n, coefficients, codes, x, stop, opened, first);
+            let Visited::Through(a) = left else {
                 return left;
             };
-            let right = walk(n, coefficients, codes, x, stop, a.opened, second);
-            let Walked::Through(b) = right else {
+            let right = visit(n, coefficients, codes, x, stop, a.opened, second);
+            let Visited::Through(b) = right else {
                 return right;
             };
-            Walked::Through(sight::both_seen(a, b))
+            Visited::Through(sight::both_seen(a, b))
         }
     }
 }
 
-// Walks a table for a column that has an hour, from the root values down to nodes that cover `stop` hours, 1 or more.
+// Visits a table for a column that has an hour, from the root values down to nodes that cover `stop` hours, 1 or more.
 // n is not too many hours, and both buffers are long enough.
-pub fn walk_table(n: usize, coefficients: &[i32], codes: &[u8], x: Column, stop: usize) -> Walked
+pub fn visit_table(n: usize, coefficients: &[i32], codes: &[u8], x: Column, stop: usize) -> Visited
     requires { ⌜ TableLent n (now coefficients) (now codes) ⌝ }
     requires { ⌜ 1 ≤ stop ⌝ }
-    ensures { λ r. ⌜ TableWalked n (now (coefficients .entry)) (now (codes .entry)) x stop r ⌝ }
+    ensures { λ r. ⌜ TableVisited n (now (coefficients .entry)) (now (codes .entry)) x stop r ⌝ }
 {
     let root = node::root_range(coefficients[0], coefficients[1]);
     let Root::Sound(range) = root else {
-        return Walked::Unsound(NodeId(0));
+        return Visited::Unsound(NodeId(0));
     };
     let p = sizes::places(n);
     let top = Reached {
@@ -205,10 +205,10 @@ pub fn walk_table(n: usize, coefficients: &[i32], codes: &[u8], x: Column, stop:
         hours: p,
         range,
     };
-    walk(n, coefficients, codes, x, stop, 0, top)
+    visit(n, coefficients, codes, x, stop, 0, top)
 }
 
-// Whether a descent takes the left of two halves with these ranges: to the first it takes the left if it has a reading,
+// Whether a walk takes the left of two halves with these ranges: to the first it takes the left if it has a reading,
 // else the right; to the last the other way round.
 fn takes_left(towards: Towards, left: Range, right: Range) -> bool
     ensures { λ r. ⌜ r ≡ takesLeft towards left right ⌝ }
@@ -225,17 +225,17 @@ fn takes_left(towards: Towards, left: Range, right: Range) -> bool
     }
 }
 
-// Descends from a node to its first or to its last reading, examining each node on the way down to the pair. The node's
+// Walks from a node to its first or to its last reading, examining each node on the way down to the pair. The node's
 // range is one of readings; its details and codes, and those below it, are there.
-pub fn descend(
+pub fn walk(
     n: usize,
     coefficients: &[i32],
     codes: &[u8],
     towards: Towards,
     start: Reached,
-) -> Descended
+) -> Walked
     requires { ⌜ Below (now coefficients) (now codes) start ⌝ }
-    ensures { λ r. ⌜ DescendedFrom n (now (coefficients .entry)) (now (codes .entry)) towards 0 start r ⌝ }
+    ensures { λ r. ⌜ WalkedFrom n (now (coefficients .entry)) (now (codes .entry)) towards 0 start r ⌝ }
 {
     let mut at = start;
     let mut levels = 0;
@@ -246,7 +246,7 @@ pub fn descend(
         let pair = nodes::is_pair(at.hours);
         let halves = step(n, coefficients, codes, id, from, pair, range);
         let Halves::Sound { left, right } = halves else {
-            return Descended::Unsound(id);
+            return Walked::Unsound(id);
         };
         levels = levels + 1;
         if takes_left(towards, left, right) {
@@ -257,7 +257,7 @@ pub fn descend(
     }
     let hour = at.from;
     let range = at.range;
-    Descended::Came {
+    Walked::Came {
         reading: Reading {
             hour,
             grams: node::low_of(range),

@@ -1,4 +1,4 @@
-// A node that a walk has come to: its halves, and how it lies to a column.
+// A node that a visit or a walk has come to: its halves, and how it lies to a column.
 use crate::Reached;
 use crate::by_parts;
 use words::Column;

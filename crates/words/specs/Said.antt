@@ -1,11 +1,11 @@
 -- What document 01 says of each case of an answer: the refusal's number and place, or the answer's values. Assumes
 -- nothing.
 --
---   numberOf r, placeOf r   the number and the place of a refusal
---   lowOf r, highOf r       the low and the high of a range, 2,000,003 where it is empty
---   Said                    an answer in document 01's numbers; `saidOf..` gives it for each type of answer
---   refused r, taken vs     a refusal as `Said`; a call that is taken, with its values
---   valuesOf a              the values of a finished column without its count; none where there is no reading
+--   numberOf why, placeOf why   the number and the place of a refusal
+--   lowOf r, highOf r           the low and the high of a range, 2,000,003 where it is empty
+--   Said                        an answer in document 01's numbers; `saidOf..` gives it for each type of answer
+--   refused why, taken zs       a refusal as `Said`; a call that is taken, with its values
+--   valuesOf a                  the values of a finished column without its count; none where there is no reading
 use mathlib.Core.List.{List, [], _∷_, _++_}
 use Prim.Native.Nat.{ℕ}
 use lib.IntN.{ℤ, pos}
@@ -30,7 +30,7 @@ use Rattle.words.specs.declared.Asking.{Asking}
 -- The number of a refusal. [refusals 1, 2, 3, 4, 5, 6, 7, 8, 9, 10, 11, 12, 13]
 abbrev pub numberOf : Refusal → ℕ
 numberOf BadHours = 1
-numberOf (BadReading t) = 2
+numberOf (BadReading h) = 2
 numberOf ShortBuffer = 3
 numberOf (Unsound i) = 4
 numberOf BadWindow = 5
@@ -40,14 +40,14 @@ numberOf CutShort = 8
 numberOf BadVersion = 9
 numberOf BadLength = 10
 numberOf BytesAfter = 11
-numberOf (BadLine i) = 12
+numberOf (BadLine line) = 12
 numberOf BadPlace = 13
 
 -- Its place: an hour, a node's number, a line counted from 1, else 0.
 -- [refusals 1, 2, 3, 4, 5, 6, 7, 8, 9, 10, 11, 12, 13]
 abbrev pub placeOf : Refusal → ℕ
 placeOf BadHours = 0
-placeOf (BadReading t) = t .0
+placeOf (BadReading h) = h .0
 placeOf ShortBuffer = 0
 placeOf (Unsound i) = i .0
 placeOf BadWindow = 0
@@ -57,7 +57,7 @@ placeOf CutShort = 0
 placeOf BadVersion = 0
 placeOf BadLength = 0
 placeOf BytesAfter = 0
-placeOf (BadLine i) = i
+placeOf (BadLine line) = line
 placeOf BadPlace = 0
 
 -- Low and high of a range, both 2,000,003 if it is empty. [table 2]
@@ -78,51 +78,54 @@ pub record Said : Type 0 where
 
 -- A refusal returns number and place. [refusals 14]
 abbrev pub refused : Refusal → Said
-refused r = record { number = numberOf r; place = placeOf r; values = [] }
+refused why = record { number = numberOf why; place = placeOf why; values = [] }
 
 abbrev pub taken : List ℤ → Said
-taken vs = record { number = 0; place = 0; values = vs }
+taken zs = record { number = 0; place = 0; values = zs }
 
 -- First hour and reading, last hour and reading, low, high; nothing where there is no reading. [columns 13, 14]
 abbrev pub valuesOf : Answer → List ℤ
 valuesOf Answer.NoReading = []
-valuesOf (Answer.Found s) =
-    pos (s .first .hour .0) ∷ s .first .grams ∷ pos (s .last .hour .0) ∷ s .last .grams ∷ s .low ∷ s .high ∷ []
+valuesOf (Answer.Found summary) =
+    pos (summary .first .hour .0) ∷ summary .first .grams
+    ∷ pos (summary .last .hour .0) ∷ summary .last .grams
+    ∷ summary .low ∷ summary .high
+    ∷ []
 
 abbrev pub saidOfFinished : Finished → Said
 saidOfFinished (Finished.Answered answer count) = taken (valuesOf answer ++ pos count ∷ [])
-saidOfFinished (Finished.Refused r) = refused r
+saidOfFinished (Finished.Refused why) = refused why
 
 abbrev pub saidOfStopped : Stopped → Said
 saidOfStopped (Stopped.Ranges outer inner count) =
     taken (lowOf outer ∷ highOf outer ∷ lowOf inner ∷ highOf inner ∷ pos count ∷ [])
-saidOfStopped (Stopped.Refused r) = refused r
+saidOfStopped (Stopped.Refused why) = refused why
 
 abbrev pub saidOfTaking : Taking → Said
 saidOfTaking Taking.Taken = taken []
-saidOfTaking (Taking.Refused r) = refused r
+saidOfTaking (Taking.Refused why) = refused why
 
 abbrev pub saidOfEdges : Edges → Said
 saidOfEdges (Edges.Hours x) = taken (pos (x .from .0) ∷ pos (x .upto .0) ∷ [])
-saidOfEdges (Edges.Refused r) = refused r
+saidOfEdges (Edges.Refused why) = refused why
 
 abbrev pub saidOfDayChange : DayChange → Said
 saidOfDayChange DayChange.NoReading = taken []
-saidOfDayChange (DayChange.Grams g) = taken (g ∷ [])
-saidOfDayChange (DayChange.Refused r) = refused r
+saidOfDayChange (DayChange.Grams z) = taken (z ∷ [])
+saidOfDayChange (DayChange.Refused why) = refused why
 
 abbrev pub saidOfWriting : Writing → Said
-saidOfWriting (Writing.Bytes b) = taken (pos b ∷ [])
-saidOfWriting (Writing.Refused r) = refused r
+saidOfWriting (Writing.Bytes size) = taken (pos size ∷ [])
+saidOfWriting (Writing.Refused why) = refused why
 
 abbrev pub saidOfUnpacking : Unpacking → Said
 saidOfUnpacking (Unpacking.Hours n) = taken (pos n ∷ [])
-saidOfUnpacking (Unpacking.Refused r) = refused r
+saidOfUnpacking (Unpacking.Refused why) = refused why
 
 abbrev pub saidOfOpening : Opening → Said
-saidOfOpening (Opening.Record n p) = taken (pos n ∷ pos p ∷ [])
-saidOfOpening (Opening.Refused r) = refused r
+saidOfOpening (Opening.Record n places) = taken (pos n ∷ pos places ∷ [])
+saidOfOpening (Opening.Refused why) = refused why
 
 abbrev pub saidOfAsking : Asking → Said
 saidOfAsking (Asking.Coefficient z) = taken (z ∷ [])
-saidOfAsking (Asking.Refused r) = refused r
+saidOfAsking (Asking.Refused why) = refused why

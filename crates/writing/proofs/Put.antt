@@ -10,7 +10,8 @@ use Rattle.words.specs.Constants.{version}
 use Rattle.om3.specs.Series.{P}
 use Rattle.om3.specs.Table.{lent}
 use Rattle.om3.specs.Calls.{filled}
-use Rattle.om3.specs.Record.{bytesOf, threeBytes, lengthFor, recordLength, headerOf, headerSize, recordOf}
+use Rattle.om3.specs.Bytes.{bytesOf, threeBytes}
+use Rattle.om3.specs.Record.{lengthFor, recordLength, headerOf, headerSize, recordOf}
 use Rattle.om3.proofs.Filled.{filled-length, filled-part, filled-set, filled-tail}
 use Rattle.om3.proofs.Bytes.{bytes-length}
 use Rattle.om3.proofs.ThreeBytes.{threes-size}

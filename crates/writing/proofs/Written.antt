@@ -14,15 +14,17 @@ use Rattle.words.specs.declared.Refusal.the-variants as refusal
 use Rattle.words.specs.declared.Writing.{Writing}
 use Rattle.om3.specs.Series.{badHours, levels, P}
 use Rattle.om3.specs.Table.{lent}
-use Rattle.om3.specs.Checks.{Check, passes, refuses}
-use Rattle.om3.specs.Refusals.{tableShort, Enough, examineTable}
+use Rattle.om3.specs.Checks.{Check, passes, refuses, inOrder}
+use Rattle.om3.specs.Refusals.{tableShort, examineTable}
 use Rattle.om3.specs.Calls.{filled}
-use Rattle.om3.specs.Record.{lengthFor, recordSize, recordOf, writingChecks}
+use Rattle.om3.specs.Record.{lengthFor, recordSize, recordOf}
+use Rattle.om3.specs.RecordCalls.{writingChecks}
+use Rattle.sizes.specs.Lent.{Enough}
 use Rattle.om3.proofs.Making.{good-some}
 use Rattle.om3.proofs.Levels.{levels-some}
 use Rattle.om3.proofs.Examined.{examine-sound}
 use Rattle.om3.proofs.Threes.{sound-threes}
-use Rattle.om3.proofs.TableChecks as checked
+use Rattle.sizes.proofs.TableChecks as checked
 use Rattle.packing.specs.Packing.{EachInThree}
 use Rattle.turning.specs.declared.Verdict.{Verdict}
 use Rattle.turning.specs.Turning.{checkOf}
@@ -30,7 +32,7 @@ use Rattle.writing.specs.Writing.{Ready, RecordWritten}
 
 module _ (n : ℕ) (cs : List ℤ) (ks out : List ℕ) where
   abbrev checks : Check
-  checks = writingChecks n (lent cs ks) (length out)
+  checks = inOrder (writingChecks n (lent cs ks) (length out))
 
   -- A refusal leaves the bytes as they were.
   refused : (why : Refusal) → checks ≡ refuses why → RecordWritten n cs ks out out (Writing.Refused why)

@@ -11,8 +11,10 @@ use Rattle.words.specs.Constants.{largestHours}
 use Rattle.words.specs.declared.Writing.{Writing}
 use Rattle.om3.specs.Series.{P}
 use Rattle.om3.specs.Table.{lent}
+use Rattle.om3.specs.Checks.{inOrder}
 use Rattle.om3.specs.Calls.{writtenBy}
-use Rattle.om3.specs.Record.{recordSize, recordOf, writingChecks, writingBy}
+use Rattle.om3.specs.Record.{recordSize, recordOf}
+use Rattle.om3.specs.RecordCalls.{writingChecks, writing}
 use Rattle.packing.specs.Packing.{EachInThree}
 
 -- What is to be written, and room for it. [record 5, 6]
@@ -26,5 +28,5 @@ pub record Ready (n : ℕ) (cs : List ℤ) (ks : List ℕ) (size : ℕ) : Type 0
 -- The table of n hours in lent coefficients cs and codes ks becomes its record in the lent bytes out.
 -- [refusals 14, 15, 16, 18] [statements 1]
 pub record RecordWritten (n : ℕ) (cs : List ℤ) (ks : List ℕ) (out out′ : List ℕ) (r : Writing) : Type 0 where
-  pub answer : r ≡ writingBy (writingChecks n (lent cs ks) (length out)) n
-  pub bytes : out′ ≡ writtenBy (writingChecks n (lent cs ks) (length out)) (recordOf n (lent cs ks)) out
+  pub answer : r ≡ writing n (lent cs ks) (length out)
+  pub bytes : out′ ≡ writtenBy (inOrder (writingChecks n (lent cs ks) (length out))) (recordOf n (lent cs ks)) out

@@ -3,7 +3,7 @@ use mathlib.Core.Path.{_≡_, sym, _∙_}
 use borrow.Author.Needs.{needs}
 use Rattle.om3.specs.Table.{lent}
 use Rattle.om3.specs.Checks.{passes}
-use Rattle.om3.specs.Refusals.{TableLent}
+use Rattle.sizes.specs.Lent.{TableLent}
 use Rattle.om3.proofs.Making.{good-some}
 use Rattle.columns.specs.Drawing.{lentChecks}
 use Rattle.columns.proofs.Checking as checking

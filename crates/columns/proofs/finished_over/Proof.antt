@@ -1,11 +1,11 @@
--- `finished_over` walks the table, and descends from the first and the last inner node if there are some. Assumes
+-- `finished_over` walks the table, and walks from the first and the last inner node if there are some. Assumes
 -- nothing.
 use mathlib.Core.Path.{refl}
 use native.Mathlib.Omega.{arith}
 use borrow.Author.Needs.{needs}
 use Rattle.om3.proofs.Levels.{P-most}
-use Rattle.walking.specs.Walking.{TableWalked}
-use Rattle.walking.specs.declared.Walked.{Walked}
+use Rattle.walking.specs.Visiting.{TableVisited}
+use Rattle.walking.specs.declared.Visited.{Visited}
 use Rattle.columns.proofs.Finishing as laws
 use Rattle.columns.proofs.finished_over.Statement.{statement}
 use Rattle.columns.proofs.finished_over.Tie as tie
@@ -16,14 +16,14 @@ hour-at c = c .before .before .before
 
 through : (c : tie.After-seen) →
     (let a = hour-at c .before .before .before .args in
-    TableWalked (a .n) (a .coefficients .now) (a .codes .now) (a .x) 1 (Walked.Through (c .seen .given .0 .0)))
-through c = rw (c .seen .given .1) at (c .before .before .walk-table .ensures)
+    TableVisited (a .n) (a .coefficients .now) (a .codes .now) (a .x) 1 (Visited.Through (c .seen .given .0 .0)))
+through c = rw (c .seen .given .1) at (c .before .before .visit-table .ensures)
 
 returns : tie.Need-returns
 returns c = laws.finished-none _ _ _ _ (c .if1 .taken)
 
-walk-table-requires : tie.Need-walk-table-requires
-walk-table-requires c κs = search needs
+visit-table-requires : tie.Need-visit-table-requires
+visit-table-requires c κs = search needs
 
 enum-known-i : tie.Need-enum-known-i
 enum-known-i c = search needs
@@ -62,7 +62,7 @@ found-requires c κs =
 returns-2 : tie.Need-returns-2
 returns-2 c =
     let c3 = c .before .before .before in
-    let told = rw (c .before .i .given .1) at (c3 .walk-table .ensures) in
+    let told = rw (c .before .i .given .1) at (c3 .visit-table .ensures) in
     laws.finished-unsound _ _ _ _ (c3 .before .if1 .left) _ told
 
 returns-3 : tie.Need-returns-3
@@ -82,7 +82,7 @@ finished-over-spec =
     tie.close
     (tie.spec
     returns
-    walk-table-requires
+    visit-table-requires
     enum-known-i
     enum-known-seen
     count-of-requires

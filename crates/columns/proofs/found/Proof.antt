@@ -1,32 +1,32 @@
--- `found` descends to the first reading and, if it came there, to the last. Assumes nothing.
+-- `found` walks to the first reading and, if it came there, to the last. Assumes nothing.
 use mathlib.Core.Path.{refl}
 use native.Mathlib.Omega.{arith}
 use borrow.Author.Needs.{needs}
 use Rattle.signed.proofs.Widths.{reads-back}
-use Rattle.walking.specs.Descending.{DescendedFrom}
-use Rattle.walking.specs.declared.Descended.{Descended}
+use Rattle.walking.specs.Walking.{WalkedFrom}
+use Rattle.walking.specs.declared.Walked.{Walked}
 use Rattle.walking.specs.declared.Towards.{Towards}
 use Rattle.columns.proofs.Founding as laws
 use Rattle.columns.proofs.found.Statement.{statement}
 use Rattle.columns.proofs.found.Tie as tie
 
--- The descent to the first reading came there; then that to the last.
+-- The walk to the first reading came there; then that to the last.
 came-first : (c : tie.After-reading) →
     (let a = c .before .before .before .before .args in
     let e = c .reading .given .0 in
-    DescendedFrom (a .n) (a .coefficients .now) (a .codes .now) Towards.First 0 (a .first)
-    (Descended.Came (e .0) (e .1 .0)))
-came-first c = rw (c .reading .given .1) at (c .before .before .descend .ensures)
+    WalkedFrom (a .n) (a .coefficients .now) (a .codes .now) Towards.First 0 (a .first)
+    (Walked.Came (e .0) (e .1 .0)))
+came-first c = rw (c .reading .given .1) at (c .before .before .walk .ensures)
 
 came-last : (c : tie.After-latest) →
     (let a = c .before .before .before .before .before .before .before .before .args in
     let e = c .latest .given .0 in
-    DescendedFrom (a .n) (a .coefficients .now) (a .codes .now) Towards.Last 0 (a .last)
-    (Descended.Came (e .0) (e .1 .0)))
-came-last c = rw (c .latest .given .1) at (c .before .before .descend2 .ensures)
+    WalkedFrom (a .n) (a .coefficients .now) (a .codes .now) Towards.Last 0 (a .last)
+    (Walked.Came (e .0) (e .1 .0)))
+came-last c = rw (c .latest .given .1) at (c .before .before .walk2 .ensures)
 
-descend-requires : tie.Need-descend-requires
-descend-requires c κs = search needs
+walk-requires : tie.Need-walk-requires
+walk-requires c κs = search needs
 
 enum-known-i : tie.Need-enum-known-i
 enum-known-i c = search needs
@@ -34,8 +34,8 @@ enum-known-i c = search needs
 enum-known-reading : tie.Need-enum-known-reading
 enum-known-reading c = search needs
 
-descend-requires-2 : tie.Need-descend-requires-2
-descend-requires-2 c κs = search needs
+walk-requires-2 : tie.Need-walk-requires-2
+walk-requires-2 c κs = search needs
 
 enum-known-i-2 : tie.Need-enum-known-i-2
 enum-known-i-2 c = search needs
@@ -64,14 +64,14 @@ high-of-requires c κs = search needs
 
 returns : tie.Need-returns
 returns c =
-    let told = rw (c .before .i .given .1) at (c .before .before .before .descend .ensures) in
+    let told = rw (c .before .i .given .1) at (c .before .before .before .walk .ensures) in
     laws.first-unsound _ _ _ _ _ _ _ _ told
 
 returns-2 : tie.Need-returns-2
 returns-2 c =
     let c1 = c .before in
     let c3 = c1 .before .before in
-    let told = rw (c1 .i2 .given .1) at (c3 .descend2 .ensures) in
+    let told = rw (c1 .i2 .given .1) at (c3 .walk2 .ensures) in
     laws.last-unsound _ _ _ _ _ _ _ _ _ (came-first (c3 .before .before)) _ told
 
 returns-3 : tie.Need-returns-3
@@ -87,10 +87,10 @@ pub found-spec : {M : Type 1} → statement M
 found-spec =
     tie.close
     (tie.spec
-    descend-requires
+    walk-requires
     enum-known-i
     enum-known-reading
-    descend-requires-2
+    walk-requires-2
     enum-known-i-2
     enum-known-latest
     add-walked

@@ -3,8 +3,8 @@ use mathlib.Core.Path.{refl}
 use native.Mathlib.Omega.{arith}
 use borrow.Author.Needs.{needs}
 use Rattle.om3.proofs.Levels.{P-most}
-use Rattle.walking.specs.Walking.{TableWalked}
-use Rattle.walking.specs.declared.Walked.{Walked}
+use Rattle.walking.specs.Visiting.{TableVisited}
+use Rattle.walking.specs.declared.Visited.{Visited}
 use Rattle.columns.proofs.Stopping as laws
 use Rattle.columns.proofs.stopped_over.Statement.{statement}
 use Rattle.columns.proofs.stopped_over.Tie as tie
@@ -15,15 +15,15 @@ hour-at c = c .before .before .before
 
 through : (c : tie.After-seen) →
     (let a = hour-at c .before .before .before .args in
-    TableWalked (a .n) (a .coefficients .now) (a .codes .now) (a .x) (a .stop)
-    (Walked.Through (c .seen .given .0 .0)))
-through c = rw (c .seen .given .1) at (c .before .before .walk-table .ensures)
+    TableVisited (a .n) (a .coefficients .now) (a .codes .now) (a .x) (a .stop)
+    (Visited.Through (c .seen .given .0 .0)))
+through c = rw (c .seen .given .1) at (c .before .before .visit-table .ensures)
 
 returns : tie.Need-returns
 returns c = laws.stopped-none _ _ _ _ _ (c .if1 .taken)
 
-walk-table-requires : tie.Need-walk-table-requires
-walk-table-requires c κs = search needs
+visit-table-requires : tie.Need-visit-table-requires
+visit-table-requires c κs = search needs
 
 enum-known-i : tie.Need-enum-known-i
 enum-known-i c = search needs
@@ -43,7 +43,7 @@ count-of-requires c κs =
 returns-2 : tie.Need-returns-2
 returns-2 c =
     let c3 = c .before .before .before in
-    let told = rw (c .before .i .given .1) at (c3 .walk-table .ensures) in
+    let told = rw (c .before .i .given .1) at (c3 .visit-table .ensures) in
     laws.stopped-unsound _ _ _ _ _ (c3 .before .if1 .left) _ told
 
 returns-3 : tie.Need-returns-3
@@ -57,7 +57,7 @@ stopped-over-spec =
     tie.close
     (tie.spec
     returns
-    walk-table-requires
+    visit-table-requires
     enum-known-i
     enum-known-seen
     inner-range-requires

@@ -4,7 +4,7 @@ use Prim.Native.Nat.{_*_}
 use native.Mathlib.Omega.{arith}
 use borrow.Author.Needs.{needs}
 use Rattle.signed.proofs.Widths.{reads-back}
-use Rattle.om3.specs.Record.{numberFrom, signedOf}
+use Rattle.om3.specs.Bytes.{numberFrom, signedOf}
 use Rattle.om3.proofs.RecordsForth.{part-length}
 use Rattle.packing.proofs.Packed.{part-three}
 use Rattle.packing.proofs.coefficient_at.Statement.{statement}

@@ -6,7 +6,7 @@ use lib.IntN.{pos}
 use lib.ListN.{length, getD}
 use borrow.Author.Needs.{needs}
 use Rattle.signed.proofs.Widths.{reads-back}
-use Rattle.om3.specs.Record.{bitsOf}
+use Rattle.om3.specs.Bytes.{bitsOf}
 use Rattle.packing.proofs.Packed.{Packed, packed-none, packed-length, packed-more, packed-all}
 use Rattle.packing.proofs.pack.Statement.{statement}
 use Rattle.packing.proofs.pack.Tie as tie

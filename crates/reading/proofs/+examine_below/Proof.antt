@@ -8,7 +8,7 @@ use borrow.Fn.Kinds.{In}
 use borrow.Fn.PlainCycle.{Measures, is, falls, and}
 use borrow.Author.Needs.{needs}
 use Rattle.om3.specs.Ranges.{Readings}
-use Rattle.om3.proofs.Rooms.{places-room, left-room, right-room}
+use Rattle.node.proofs.Rooms.{places-room, left-room, right-room}
 use Rattle.node.specs.declared.Halves.{Halves}
 use Rattle.turning.proofs.Examining as laws
 use Rattle.packing.specs.Packing.{unpacked}

@@ -9,7 +9,7 @@ use borrow.Fn.Kinds.{In}
 use borrow.Fn.PlainCycle.{Measures, is, falls, and}
 use borrow.Author.Needs.{needs}
 use Rattle.signed.proofs.Widths.{reads-back}
-use Rattle.om3.proofs.Rooms.{places-room, left-room, right-room}
+use Rattle.node.proofs.Rooms.{places-room, left-room, right-room}
 use Rattle.node.specs.Steps.{halvesOf}
 use Rattle.node.proofs.half_ranges.Reads as half-ranges-reads
 use Rattle.turning.proofs.examine_below.Reads as own

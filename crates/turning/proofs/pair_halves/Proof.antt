@@ -12,7 +12,7 @@ use Rattle.turning.proofs.Examining as laws
 -- What the step down answers, for the code as it stands among the codes.
 step : (c : tie.After-pair-hours) {x : Halves} → c .pair-hours .result ≡ x →
     (let a = c .before .before .before .args in
-    pairOf (a .range) (getD (a .codes .now) (a .t .0 / 2) 0) ≡ x)
+    pairOf (a .range) (getD (a .codes .now) (a .h .0 / 2) 0) ≡ x)
 step c g = sym (c .pair-hours .ensures) ∙ g
 
 add-next : tie.Need-add-next
@@ -34,7 +34,7 @@ returns : tie.Need-returns
 returns c =
     let c2 = c .before .before in
     let a = c2 .before .before .before .args in
-    laws.code-unsound (a .n) (a .codes .now) (a .t .0) (a .range) (step c2 (c .enum-told .given .1))
+    laws.code-unsound (a .n) (a .codes .now) (a .h .0) (a .range) (step c2 (c .enum-told .given .1))
 
 allowed-requires : tie.Need-allowed-requires
 allowed-requires c κs = search needs
@@ -50,7 +50,7 @@ returns-2 c =
     let a = c7 .before .before .before .args in
     let first = sym (c3 .allowed .ensures) ∙ c .before .before .if1 .taken in
     let second = sym (c .before .allowed2 .ensures) ∙ c .if2 .taken in
-    laws.both-out (a .n) (a .codes .now) (a .t .0) (a .range) _ _ (step c7 (c5 .pair .given .1)) first second
+    laws.both-out (a .n) (a .codes .now) (a .h .0) (a .range) _ _ (step c7 (c5 .pair .given .1)) first second
 
 returns-3 : tie.Need-returns-3
 returns-3 c =
@@ -60,7 +60,7 @@ returns-3 c =
     let a = c7 .before .before .before .args in
     let first = sym (c3 .allowed .ensures) ∙ c .before .before .if1 .taken in
     let second = sym (c .before .allowed2 .ensures) ∙ c .if2 .left in
-    laws.second-late (a .n) (a .codes .now) (a .t .0) (a .range) _ _ (step c7 (c5 .pair .given .1)) first second
+    laws.second-late (a .n) (a .codes .now) (a .h .0) (a .range) _ _ (step c7 (c5 .pair .given .1)) first second
 
 returns-4 : tie.Need-returns-4
 returns-4 c =
@@ -68,7 +68,7 @@ returns-4 c =
     let c5 = c3 .before .before in
     let a = c5 .before .before .before .args in
     let first = sym (c .before .allowed .ensures) ∙ c .if1 .left in
-    laws.first-late (a .n) (a .codes .now) (a .t .0) (a .range) _ _ (step c5 (c3 .pair .given .1)) first
+    laws.first-late (a .n) (a .codes .now) (a .h .0) (a .range) _ _ (step c5 (c3 .pair .given .1)) first
 
 pub pair-halves-spec : {M : Type 1} → statement M
 pair-halves-spec =

@@ -12,8 +12,9 @@ use Rattle.om3.proofs.Making.{good-some}
 use Rattle.om3.proofs.Levels.{2≤P, P-even}
 use Rattle.om3.specs.Series.{badHours}
 use Rattle.om3.specs.Table.{lent}
-use Rattle.om3.specs.Refusals.{tableShort, Enough}
-use Rattle.om3.proofs.TableChecks.{enough}
+use Rattle.om3.specs.Refusals.{tableShort}
+use Rattle.sizes.specs.Lent.{Enough}
+use Rattle.sizes.proofs.TableChecks.{enough}
 use Rattle.node.specs.declared.Root.{Root}
 use Rattle.node.specs.Steps.{rootOf}
 use Rattle.turning.proofs.AtRoot.{root-read, root-readings}

@@ -49,7 +49,7 @@ use denote.Triple.Clauses.{ensured, lasts}
 use Rattle.words.specs.declared.Asking.{Asking}
 use Rattle.words.proofs.Asking as S
 use Rattle.words.proofs.Asking.Laws as S′
-use Rattle.om3.specs.Record.{askedView}
+use Rattle.om3.specs.RecordCalls.{askingView}
 use Rattle.opening.proofs.ask as callee
 use Rattle.opening.proofs.ask.Symbol as callee-def
 use Rattle.opening.proofs.ask.Symbol.{name as #opening·ask}
@@ -89,7 +89,7 @@ module _ {M : Type 1} (𝓤 : URA M) (H : Heap 𝓤) (A : Atoms 𝓤) (mem : Mem
     bytes = sliceVal (view .bytes .ptr) (length (view .bytes .now))
 
     abbrev answer : Asking
-    answer = askedView (now (view .bytes)) (view .places) place
+    answer = askingView (now (view .bytes)) (view .places) place
 
     abbrev at : Vals ask.signature (κ, tt)
     at = (mach ∷ [], (vint w64 place ∷ [], tt))

@@ -46,7 +46,7 @@ use denote.Triple.Clauses.{ensured, lasts}
 use Rattle.words.specs.declared.Asking.{Asking}
 use Rattle.words.proofs.Asking as S
 use Rattle.words.proofs.Asking.Laws as S′
-use Rattle.om3.specs.Record.{askedView}
+use Rattle.om3.specs.RecordCalls.{askingView}
 use Rattle.view.specs.declared.View.{View}
 use Rattle.view.specs.View.{viewOf}
 use Rattle.view.proofs.View as T
@@ -70,7 +70,7 @@ B κs = T.the-row (namedLft 1 0 tt κs)
 
 -- What a view answers.
 abbrev answer : View → ℕ → Asking
-answer view place = askedView (now (view .bytes)) (view .places) place
+answer view place = askingView (now (view .bytes)) (view .places) place
 
 abbrev stayed : Stays (once.ended .signature .params) (once.ended .kept)
 stayed = (stay-none-slice (0 ∷ []) tt (plain (λ _. u8)) yes, (stay-none (λ _. usize) yes, tt))

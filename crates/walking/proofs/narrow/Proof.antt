@@ -1,4 +1,4 @@
--- `narrow` opens one node after the other. Wherever it has come to, a walk from there is a walk from the start
+-- `narrow` opens one node after the other. Wherever it has come to, a visit from there is a visit from the start
 -- (`CameTo`); the hours of the node it is at fall by half in each turn. Assumes nothing.
 use mathlib.Core.Path.{_≡_, sym, _∙_}
 use mathlib.Core.Bool.{true}
@@ -7,7 +7,7 @@ use native.Mathlib.Omega.{arith}
 use borrow.Author.Needs.{needs}
 use Rattle.node.specs.declared.Halves.{Halves}
 use Rattle.walking.specs.Nodes.{openedOf}
-use Rattle.walking.specs.Walking.{SteppedDown}
+use Rattle.walking.specs.Visiting.{SteppedDown}
 use Rattle.walking.proofs.Lending.{steps, small-number}
 use Rattle.walking.proofs.Narrowing as laws
 use Rattle.walking.proofs.Narrowing.{CameTo}
@@ -28,7 +28,7 @@ came : (c : tie.At-loop Inv-loop μ-loop) →
     (c .loop .at) (c .loop .opened))
 came c = rw (c .before .copy-node .ensures) at (c .loop .inv)
 
--- The node that the walk is at ends at an hour that is counted without overflow.
+-- The node that the visit is at ends at an hour that is counted without overflow.
 ends-early : (c : tie.At-loop Inv-loop μ-loop) → c .loop .at .from .0 + c .loop .at .hours < 2 ^ 64
 ends-early c = omega (arith, c .loop .inv .below .codes, c .before .before .before .good)
 

@@ -7,10 +7,11 @@ use lib.ListN.{length}
 use lib.Seq.{length-take-le}
 use borrow.Author.Needs.{needs}
 use Rattle.om3.specs.Series.{badHours}
-use Rattle.om3.specs.Record.{recordSize}
 use Rattle.om3.specs.Table.{lent}
-use Rattle.om3.specs.Refusals.{tableShort, Enough}
-use Rattle.om3.proofs.TableChecks.{enough}
+use Rattle.om3.specs.Refusals.{tableShort}
+use Rattle.om3.specs.Record.{recordSize}
+use Rattle.sizes.specs.Lent.{Enough}
+use Rattle.sizes.proofs.TableChecks.{enough}
 use Rattle.om3.proofs.Making.{good-some}
 use Rattle.om3.proofs.Levels.{P-most}
 use Rattle.writing.proofs.Written as laws

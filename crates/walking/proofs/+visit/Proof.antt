@@ -1,20 +1,20 @@
--- `walk` narrows, and then answers what the node adds that narrowing came to, or calls itself on the two halves that it
--- came to, the left one first; each covers fewer hours. Assumes nothing.
+-- `visit` narrows, and then answers what the node adds that narrowing came to, or calls itself on the two halves
+-- that it came to, the left one first; each covers fewer hours. Assumes nothing.
 use mathlib.Core.Path.{refl}
 use Prim.Native.Nat.{ℕ, _<_}
 use native.Mathlib.Omega.{arith}
 use borrow.Fn.Kinds.{In}
 use borrow.Fn.PlainCycle.{Measures, is, falls, and}
 use borrow.Author.Needs.{needs}
-use Rattle.walking.specs.Walking.{WalkedFrom}
+use Rattle.walking.specs.Visiting.{VisitedFrom}
 use Rattle.walking.specs.Narrowing.{EndsAt, SplitsAt}
-use Rattle.walking.specs.declared.Walked.{Walked}
-use Rattle.walking.proofs.Walking as laws
-use Rattle.walking.proofs.walk.Reads as own
-use Rattle.walking.proofs.walk.Kinds as kinds
-use Rattle.walking.proofs.+walk.Lts-walk as lts
-use Rattle.walking.proofs.+walk.{statement}
-use Rattle.walking.proofs.+walk.Tie.{close}
+use Rattle.walking.specs.declared.Visited.{Visited}
+use Rattle.walking.proofs.Visiting as laws
+use Rattle.walking.proofs.visit.Reads as own
+use Rattle.walking.proofs.visit.Kinds as kinds
+use Rattle.walking.proofs.+visit.Lts-visit as lts
+use Rattle.walking.proofs.+visit.{statement}
+use Rattle.walking.proofs.+visit.Tie.{close}
 use Rattle.walking.proofs.sight.both_seen.Reads as both-seen-reads
 use Rattle.walking.proofs.sight.unopened.Reads as unopened-reads
 use Rattle.walking.proofs.narrow.Reads as narrow-reads
@@ -55,14 +55,14 @@ split : (t : ℕ) (c : lts.After-first (callees t) (at t) own.Post) →
     (e .0) (e .1 .0) (e .1 .1 .0))
 split t c = rw (c .first .given .1) at (c .before .before .narrow .ensures)
 
--- The left half was walked through.
+-- The left half was visited through.
 left-seen : (t : ℕ) (c : lts.After-left (callees t) (at t) own.Post) →
     (let c4 = c .before .before .before .before in
     let a = c4 .before .before .before .before .args in
     let e = c4 .first .given .0 in
-    WalkedFrom (a .n) (a .coefficients .now) (a .codes .now) (a .x) (a .stop) (e .1 .1 .0) (e .0)
-    (Walked.Through (c .left .given .0 .0)))
-left-seen t c = rw (c .left .given .1) at (c .before .before .walk .ensures)
+    VisitedFrom (a .n) (a .coefficients .now) (a .codes .now) (a .x) (a .stop) (e .1 .1 .0) (e .0)
+    (Visited.Through (c .left .given .0 .0)))
+left-seen t c = rw (c .left .given .1) at (c .before .before .visit .ensures)
 
 narrow-requires : (t : ℕ) → lts.Need-narrow-requires (callees t) (at t) own.Post
 narrow-requires t c κs = c .before .pre .1
@@ -81,8 +81,8 @@ unopened-requires t c κs =
 enum-known-first : (t : ℕ) → lts.Need-enum-known-first (callees t) (at t) own.Post
 enum-known-first t c = search needs
 
-walk-requires : (t : ℕ) → lts.Need-walk-requires (callees t) (at t) own.Post
-walk-requires t c κs =
+visit-requires : (t : ℕ) → lts.Need-visit-requires (callees t) (at t) own.Post
+visit-requires t c κs =
     let start = c .before .before .before .before .before in
     let s = split t (c .before) in (
       omega (arith, s .less-first, start .pre .0),
@@ -99,10 +99,10 @@ returns : (t : ℕ) → lts.Need-returns (callees t) (at t) own.Post
 returns t c =
     let c2 = c .before .before in
     let told = c .enum-told .given .1 in
-    rw told (split t (c2 .before .before) .left-unsound _ (rw told at (c2 .walk .ensures)))
+    rw told (split t (c2 .before .before) .left-unsound _ (rw told at (c2 .visit .ensures)))
 
-walk-requires-2 : (t : ℕ) → lts.Need-walk-requires-2 (callees t) (at t) own.Post
-walk-requires-2 t c κs =
+visit-requires-2 : (t : ℕ) → lts.Need-visit-requires-2 (callees t) (at t) own.Post
+visit-requires-2 t c κs =
     let c5 = c .before .before .before .before .before in
     let start = c5 .before .before .before .before in
     let s = split t c5 in
@@ -121,7 +121,8 @@ returns-2 t c =
     let c4 = c2 .before .before in
     let told = c .enum-told2 .given .1 in
     rw told
-    (split t (c4 .before .before .before .before) .right-unsound _ (left-seen t c4) _ (rw told at (c2 .walk2 .ensures)))
+    (split t (c4 .before .before .before .before) .right-unsound _ (left-seen t c4) _
+    (rw told at (c2 .visit2 .ensures)))
 
 both-seen-requires : (t : ℕ) → lts.Need-both-seen-requires (callees t) (at t) own.Post
 both-seen-requires t c κs = search needs
@@ -132,17 +133,17 @@ returns-3 t c = rw (c .before .i .given .1) at (c .before .before .before .narro
 returns-4 : (t : ℕ) → lts.Need-returns-4 (callees t) (at t) own.Post
 returns-4 t c =
     let e = ended t (c .before .before) in
-    rw (c .unopened .ensures) (e .rest _ (laws.unopened-walked _ _ _ _ _ _ _ (e .closed) (e .lent)))
+    rw (c .unopened .ensures) (e .rest _ (laws.unopened-visited _ _ _ _ _ _ _ (e .closed) (e .lent)))
 
 returns-5 : (t : ℕ) → lts.Need-returns-5 (callees t) (at t) own.Post
 returns-5 t c =
     let c2 = c .before .before in
     let c6 = c2 .before .before .before .before in
-    let right = rw (c2 .right .given .1) at (c2 .before .before .walk2 .ensures) in
+    let right = rw (c2 .right .given .1) at (c2 .before .before .visit2 .ensures) in
     rw (c .both-seen .ensures) (split t (c6 .before .before .before .before) .both-seen _ (left-seen t c6) _ right)
 
-pub +walk-spec : {M : Type 1} → statement M
-+walk-spec =
+pub +visit-spec : {M : Type 1} → statement M
++visit-spec =
     close hoursOf λ t.
     lts.spec (callees t) (at t) own.Post
     (narrow-requires t)
@@ -150,11 +151,11 @@ pub +walk-spec : {M : Type 1} → statement M
     (enum-known-at t)
     (unopened-requires t)
     (enum-known-first t)
-    (walk-requires t)
+    (visit-requires t)
     (enum-known-left t)
     (enum-told t)
     (returns t)
-    (walk-requires-2 t)
+    (visit-requires-2 t)
     (enum-known-right t)
     (enum-told-2 t)
     (returns-2 t)

@@ -5,10 +5,11 @@ use mathlib.Core.Logic.{⊎-elim}
 use Prim.Native.Nat.{ℕ, suc, _+_, _-_, _*_, _/_, _^_, _≤_, _<_}
 use native.Mathlib.Omega.{arith}
 use lib.Pow.{pow-mono}
-use Rattle.om3.specs.Nodes.{Node, InTree, root, left, right, width, Located}
+use Rattle.om3.specs.Nodes.{Node, InTree, root, left, right, width}
 use Rattle.om3.proofs.Tests.{below-or-not}
 use Rattle.om3.proofs.Nodes.{start-root, width-root, width-half, width-right, start-left, start-right}
 use Rattle.om3.proofs.Nodes.{number-left, number-right, left-in, right-in}
+use Rattle.node.specs.Located.{Located}
 
 pub root-located : (l : ℕ) → Located l root 1 0 (2 ^ l)
 root-located l =

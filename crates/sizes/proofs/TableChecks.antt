@@ -1,25 +1,28 @@
--- Checks 1, 3 and 4 of a table that is written to a buffer, one after the other. Assumes nothing.
+-- Checks 1, 3 and 4 of a table that becomes something else, in a buffer of which so much is lent and so much needed,
+-- one after the other: those of turning back and of writing a record. Assumes nothing.
 use mathlib.Core.Path.{_≡_}
-use mathlib.Core.Bool.{true, false}
-use mathlib.Core.List.{List}
+use mathlib.Core.Bool.{true, false, _||_}
+use mathlib.Core.List.{List, [], _∷_}
 use Prim.Native.Nat.{ℕ, _≤_, _<_}
 use lib.IntN.{ℤ}
 use borrow.Author.Tests.{lt-ltb, le-ltb, ltb-false}
 use Rattle.words.specs.declared.Refusal.the-variants.{BadHours, ShortBuffer}
 use Rattle.om3.specs.Series.{badHours}
 use Rattle.om3.specs.Table.{Table, lent}
 use Rattle.om3.specs.Checks.{Check, passes, refuses, inOrder}
-use Rattle.om3.specs.Refusals.{short, tableShort, Enough, examineTable, tableChecks}
+use Rattle.om3.specs.Refusals.{checkHours, short, tableShort, checkRoom, examineTable}
 use Rattle.om3.proofs.Tests.{neither}
 use Rattle.om3.proofs.Examined.{then-passes, order-parts, first-absent}
-use Rattle.om3.proofs.Lent.{table-lent, table-room}
+use Rattle.sizes.specs.Lent.{Enough}
+use Rattle.sizes.proofs.Lent.{table-lent, table-room}
 
 module _ (n : ℕ) (cs : List ℤ) (ks : List ℕ) (size needed : ℕ) where
   abbrev T : Table
   T = lent cs ks
 
   abbrev checks : Check
-  checks = tableChecks n T size needed
+  checks =
+      inOrder (checkHours n ∷ checkRoom (tableShort n T || short size needed) ∷ examineTable n T ∷ [])
 
   pub bad-hours : badHours n ≡ true → checks ≡ refuses BadHours
   unfolding inOrder

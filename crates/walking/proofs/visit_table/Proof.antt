@@ -1,4 +1,4 @@
--- `walk_table` examines node 0, which gives node 1 its range, and walks from node 1. Assumes nothing.
+-- `visit_table` examines node 0, which gives node 1 its range, and visits from node 1. Assumes nothing.
 use mathlib.Core.Path.{_≡_}
 use native.Mathlib.Omega.{arith}
 use lib.IntN.{pos}
@@ -10,8 +10,8 @@ use Rattle.node.specs.declared.Root.{Root}
 use Rattle.node.specs.Steps.{rootOf}
 use Rattle.turning.proofs.AtRoot.{root-read}
 use Rattle.walking.proofs.FromRoot as laws
-use Rattle.walking.proofs.walk_table.Statement.{statement}
-use Rattle.walking.proofs.walk_table.Tie as tie
+use Rattle.walking.proofs.visit_table.Statement.{statement}
+use Rattle.walking.proofs.visit_table.Tie as tie
 
 -- What node 1's range is told to be, for the root values as they stand in the coefficients.
 root-told : (c : tie.After-root-range) {x : Root} → c .root-range .result ≡ x →
@@ -47,8 +47,8 @@ places-requires c κs =
     let start = c .before .before .before .before .before .before .before in
     good-some _ (start .pre .0 .good) .1
 
-walk-requires : tie.Need-walk-requires
-walk-requires c κs =
+visit-requires : tie.Need-visit-requires
+visit-requires c κs =
     let c2 = c .before .before in
     let c4 = c2 .before .before in
     let start = c4 .before .before .before .before in
@@ -63,10 +63,10 @@ returns-2 : tie.Need-returns-2
 returns-2 c =
     let c3 = c .before .before .before in
     let told = root-told (c3 .before .before) (c3 .root .given .1) in
-    laws.top-walked _ _ _ _ _ _ told _ (rw (c .before .places .ensures) at (c .walk .ensures))
+    laws.top-visited _ _ _ _ _ _ told _ (rw (c .before .places .ensures) at (c .visit .ensures))
 
-pub walk-table-spec : {M : Type 1} → statement M
-walk-table-spec =
+pub visit-table-spec : {M : Type 1} → statement M
+visit-table-spec =
     tie.close
     (tie.spec
     shared-slice-copy-out-root-range
@@ -76,5 +76,5 @@ walk-table-spec =
     enum-told
     returns
     places-requires
-    walk-requires
+    visit-requires
     returns-2)

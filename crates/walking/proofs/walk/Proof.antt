@@ -1,4 +1,4 @@
--- `descend` takes one half after the other. Wherever it has come to, a descent from there is a descent from the start
+-- `walk` takes one half after the other. Wherever it has come to, a walk from there is a walk from the start
 -- (`CameTo`); the hours of the node it is at fall by half in each turn. Assumes nothing.
 use mathlib.Core.Path.{sym, _∙_}
 use Prim.Native.Nat.{_*_, _^_, _<_}
@@ -6,12 +6,12 @@ use native.Mathlib.Omega.{arith}
 use borrow.Author.Needs.{needs}
 use Rattle.signed.proofs.Widths.{reads-back}
 use Rattle.node.specs.declared.Halves.{Halves}
-use Rattle.walking.specs.Walking.{SteppedDown}
+use Rattle.walking.specs.Visiting.{SteppedDown}
 use Rattle.walking.proofs.Lending.{steps, small-number}
-use Rattle.walking.proofs.Descending as laws
-use Rattle.walking.proofs.Descending.{CameTo}
-use Rattle.walking.proofs.descend.Statement.{statement}
-use Rattle.walking.proofs.descend.Tie as tie
+use Rattle.walking.proofs.Walking as laws
+use Rattle.walking.proofs.Walking.{CameTo}
+use Rattle.walking.proofs.walk.Statement.{statement}
+use Rattle.walking.proofs.walk.Tie as tie
 
 abbrev Inv-loop : tie.InvT-loop
 Inv-loop n coefficients codes towards at₀ levels₀ at levels = CameTo n coefficients codes towards at₀ at levels
@@ -126,8 +126,8 @@ returns-2 c =
     rw (reads-back (l .result) (l .ok), l .ensures)
     (here .loop .inv .rest _ (laws.hour-came _ _ _ _ _ _ (here .loop .inv .below) (c2 .if1 .left)))
 
-pub descend-spec : {M : Type 1} → statement M
-descend-spec =
+pub walk-spec : {M : Type 1} → statement M
+walk-spec =
     tie.close
     (tie.spec
     Inv-loop
