@@ -191,8 +191,8 @@ struct sagivelume_told_hours sagivelume_read_record(
 struct sagivelume_told_record sagivelume_open_record(
     const uint8_t *bytes, size_t bytes_length);
 
-/* Asks a record for the coefficient at a place. `places` is the P that opening these bytes answered; it is taken as it
- * is, and nothing else of the record is looked at. Refusals 13, 8. */
+/* Asks a record for the coefficient at a place. `places` is P as opening answered it for these bytes: it is taken as it
+ * is, nothing else of the record is looked at, and with another P the answer is not the record's. Refusals 13, 8. */
 struct sagivelume_told_coefficient sagivelume_ask(
     const uint8_t *bytes, size_t bytes_length,
     size_t places,

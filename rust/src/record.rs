@@ -116,8 +116,9 @@ impl Record<'_> {
     }
 }
 
-/// The coefficient of a place of any bytes, taken for a record that has so many places. Nothing else of them is looked
-/// at: who asks a [`Record`] has its places from opening it.
+/// The coefficient at a place of a record's bytes. `places` is P as opening answered it for these bytes: it is taken as
+/// it is, nothing else of the record is looked at, and with another P the answer is not the record's. A [`Record`] has
+/// its places from opening.
 ///
 /// Refusals in the order 13 (the place is not below the number of places), 8 (the bytes do not reach the place).
 ///
