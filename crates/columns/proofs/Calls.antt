@@ -23,7 +23,7 @@ use Rattle.om3.specs.Stopped.{openedNodes, examineColumn, stopped}
 use Rattle.om3.specs.Finished.{answer, finishedNodes, finished}
 use Rattle.om3.specs.Days.{day, changeOf, dayChange}
 use Rattle.om3.proofs.Examined.{then-passes}
-use Rattle.columns.specs.Drawing.{lentChecks, windowChecks, StoppedAt, finishedAnswer, FinishedOver}
+use Rattle.columns.specs.Drawing.{lentCheck, windowCheck, StoppedAt, finishedAnswer, FinishedOver}
 use Rattle.columns.proofs.Checking as checking
 use Rattle.columns.proofs.Finishing.{not-answered}
 
@@ -33,7 +33,7 @@ module _ (n a b w k : ℕ) where
   edges-bad-hours bad = rw (checking.edges-hours n a b w k bad)
 
   pub edges-window : badHours n ≡ false → (r : Edges)
-      → r ≡ answerBy Edges.Refused (windowChecks n a b w k) (Edges.Hours (column a b w k))
+      → r ≡ answerBy Edges.Refused (windowCheck n a b w k) (Edges.Hours (column a b w k))
       → r ≡ edges n a b w k
   unfolding edges
   edges-window good r e = rw (checking.edges-parted n a b w k good) e
@@ -46,18 +46,18 @@ module _ (n : ℕ) (cs : List ℤ) (ks : List ℕ) (a b w k : ℕ) where
   T = lent cs ks
 
   abbrev told : Edges
-  told = answerBy Edges.Refused (windowChecks n a b w k) (Edges.Hours (column a b w k))
+  told = answerBy Edges.Refused (windowCheck n a b w k) (Edges.Hours (column a b w k))
 
   -- A finished column.
   abbrev four : Check
   four = examineColumn l T (column a b w k) n (finishedNodes l T (column a b w k))
 
-  pub finished-lent : (why : Refusal) → Taking.Refused why ≡ answerBy Taking.Refused (lentChecks n T) Taking.Taken
+  pub finished-lent : (why : Refusal) → Taking.Refused why ≡ answerBy Taking.Refused (lentCheck n T) Taking.Taken
       → Finished.Refused why ≡ finished n T a b w k
   unfolding finished
   finished-lent why e = rw (checking.lent-refused n T a b w k (four ∷ []) why e)
 
-  module _ (lends : lentChecks n T ≡ passes) where
+  module _ (lends : lentCheck n T ≡ passes) where
     pub finished-window : (why : Refusal) → Edges.Refused why ≡ told → Finished.Refused why ≡ finished n T a b w k
     unfolding finished
     finished-window why e = rw (checking.window-refused n T a b w k (four ∷ []) lends why e)
@@ -66,7 +66,7 @@ module _ (n : ℕ) (cs : List ℤ) (ks : List ℕ) (a b w k : ℕ) where
         → r ≡ finished n T a b w k
     unfolding finished inOrder
     finished-column x e r F =
-        let h = checking.edges-passed (windowChecks n a b w k) (column a b w k) x e in
+        let h = checking.edges-passed (windowCheck n a b w k) (column a b w k) x e in
         rw (checking.window-passed n T a b w k (four ∷ []) lends (h .0), then-passes four) (rw (h .1) at (F .answer))
 
   -- A column stopped at depth d.
@@ -74,12 +74,12 @@ module _ (n : ℕ) (cs : List ℤ) (ks : List ℕ) (a b w k : ℕ) where
     abbrev examined : Check
     examined = examineColumn l T (column a b w k) n (openedNodes l T (column a b w k) d)
 
-    pub stopped-lent : (why : Refusal) → Taking.Refused why ≡ answerBy Taking.Refused (lentChecks n T) Taking.Taken
+    pub stopped-lent : (why : Refusal) → Taking.Refused why ≡ answerBy Taking.Refused (lentCheck n T) Taking.Taken
         → Stopped.Refused why ≡ stopped n T a b w k d
     unfolding stopped
     stopped-lent why e = rw (checking.lent-refused n T a b w k (checkDepth n d ∷ examined ∷ []) why e)
 
-    module _ (lends : lentChecks n T ≡ passes) where
+    module _ (lends : lentCheck n T ≡ passes) where
       pub stopped-window : (why : Refusal) → Edges.Refused why ≡ told → Stopped.Refused why ≡ stopped n T a b w k d
       unfolding stopped
       stopped-window why e = rw (checking.window-refused n T a b w k (checkDepth n d ∷ examined ∷ []) lends why e)
@@ -88,7 +88,7 @@ module _ (n : ℕ) (cs : List ℤ) (ks : List ℕ) (a b w k : ℕ) where
           → r ≡ stopped n T a b w k d
       unfolding stopped
       stopped-column x e r S =
-          let h = checking.edges-passed (windowChecks n a b w k) (column a b w k) x e in
+          let h = checking.edges-passed (windowCheck n a b w k) (column a b w k) x e in
           rw (checking.window-passed n T a b w k (checkDepth n d ∷ examined ∷ []) lends (h .0))
           (rw (h .1) at (S .answer))
 
@@ -110,18 +110,18 @@ module _ (n : ℕ) (cs : List ℤ) (ks : List ℕ) (d : ℕ) where
   abbrev table : Table
   table = lent cs ks
 
-  abbrev walked : Check
-  walked = examineColumn (levels n) table (day n d) n (finishedNodes (levels n) table (day n d))
+  abbrev examined-day : Check
+  examined-day = examineColumn (levels n) table (day n d) n (finishedNodes (levels n) table (day n d))
 
-  pub day-lent : (why : Refusal) → Taking.Refused why ≡ answerBy Taking.Refused (lentChecks n table) Taking.Taken
+  pub day-lent : (why : Refusal) → Taking.Refused why ≡ answerBy Taking.Refused (lentCheck n table) Taking.Taken
       → DayChange.Refused why ≡ dayChange n table d
   unfolding dayChange
-  day-lent why e = rw (checking.day-lent-refused n table d walked why e)
+  day-lent why e = rw (checking.day-lent-refused n table d examined-day why e)
 
-  module _ (lends : lentChecks n table ≡ passes) where
+  module _ (lends : lentCheck n table ≡ passes) where
     pub day-late : n ≤ dayHours * d → DayChange.Refused BadWindow ≡ dayChange n table d
     unfolding dayChange
-    day-late h = rw (checking.day-late n table d walked lends h)
+    day-late h = rw (checking.day-late n table d examined-day lends h)
 
     module _ (there : dayHours * d < n) (x : Column) (e : x ≡ day n d) where
       pub day-refused : (why : Refusal) → FinishedOver n cs ks x (Finished.Refused why)
@@ -129,13 +129,13 @@ module _ (n : ℕ) (cs : List ℤ) (ks : List ℕ) (d : ℕ) where
       unfolding dayChange
       day-refused why F =
           rw (
-            checking.day-there n table d walked lends there,
-            refused-by n table (day n d) walked why (rw e at (F .answer)),
+            checking.day-there n table d examined-day lends there,
+            refused-by n table (day n d) examined-day why (rw e at (F .answer)),
           )
 
       pub day-answered : (a : Answer) (m : ℕ) → FinishedOver n cs ks x (Finished.Answered a m)
           → changeOf a ≡ dayChange n table d
       unfolding dayChange
       day-answered a m F =
-          let g = answered-by n table (day n d) walked a m (rw e at (F .answer)) in
-          rw (checking.day-there n table d walked lends there, g .0, g .1)
+          let g = answered-by n table (day n d) examined-day a m (rw e at (F .answer)) in
+          rw (checking.day-there n table d examined-day lends there, g .0, g .1)

@@ -1,7 +1,7 @@
 -- The checks of the column calls, in the parts in which the code makes them. Assumes nothing.
 use mathlib.Core.Path.{_≡_, refl, ap, _∙_}
 use mathlib.Core.Bool.{Bool, true, false, not, _&&_, _||_}
-use mathlib.Core.List.{List, [], _∷_, _++_}
+use mathlib.Core.List.{List, [], _∷_}
 use Prim.Native.Nat.{ℕ, _+_, _*_, _≤_, _<_}
 use native.Mathlib.Omega.{arith}
 use lib.Dec.{leb, ltb, eqb}
@@ -23,32 +23,32 @@ use Rattle.om3.proofs.Tests.{and-left, and-right, neither}
 use Rattle.om3.proofs.Examined.{then-passes, in-order-append, first-absent}
 use Rattle.sizes.proofs.Lent.{table-lent as lent-whole}
 use Rattle.om3.proofs.Taken.{taken-passes, refused-refuses}
-use Rattle.columns.specs.Drawing.{Edged, lentChecks, windowChecks}
+use Rattle.columns.specs.Drawing.{Edged, lentCheck, windowCheck}
 
 -- Checks 1 and 3.
 module _ (n : ℕ) (cs : List ℤ) (ks : List ℕ) where
   abbrev T : Table
   T = lent cs ks
 
-  pub bad-hours : badHours n ≡ true → Taking.Refused BadHours ≡ answerBy Taking.Refused (lentChecks n T) Taking.Taken
+  pub bad-hours : badHours n ≡ true → Taking.Refused BadHours ≡ answerBy Taking.Refused (lentCheck n T) Taking.Taken
   unfolding inOrder
   bad-hours b = rw b
 
   module _ (good : badHours n ≡ false) where
     pub short-table : tableShort n T ≡ true
-        → Taking.Refused ShortBuffer ≡ answerBy Taking.Refused (lentChecks n T) Taking.Taken
+        → Taking.Refused ShortBuffer ≡ answerBy Taking.Refused (lentCheck n T) Taking.Taken
     unfolding inOrder
     short-table h = rw (good, h)
 
-    pub enough : tableShort n T ≡ false → Taking.Taken ≡ answerBy Taking.Refused (lentChecks n T) Taking.Taken
+    pub enough : tableShort n T ≡ false → Taking.Taken ≡ answerBy Taking.Refused (lentCheck n T) Taking.Taken
     unfolding inOrder
     enough h = rw (good, h)
 
-  pub lent-passes : Taking.Taken ≡ answerBy Taking.Refused (lentChecks n T) Taking.Taken → lentChecks n T ≡ passes
-  lent-passes taken = taken-passes (lentChecks n T) taken
+  pub lent-passes : Taking.Taken ≡ answerBy Taking.Refused (lentCheck n T) Taking.Taken → lentCheck n T ≡ passes
+  lent-passes taken = taken-passes (lentCheck n T) taken
 
   -- They have passed: the table is lent.
-  pub table-lent : lentChecks n T ≡ passes → TableLent n cs ks
+  pub table-lent : lentCheck n T ≡ passes → TableLent n cs ks
   table-lent lends =
       let one = first-absent (badHours n) BadHours _ lends in
       lent-whole n cs ks (one .0) (first-absent (tableShort n T) ShortBuffer _ (one .1) .0)
@@ -62,7 +62,7 @@ module _ (n a b w k : ℕ) where
   none = eqb w 0 || ltb mostColumns w || leb w k
 
   abbrev told : Edges
-  told = answerBy Edges.Refused (windowChecks n a b w k) (Edges.Hours (column a b w k))
+  told = answerBy Edges.Refused (windowCheck n a b w k) (Edges.Hours (column a b w k))
 
   pub bad-window : outside ≡ true → Edges.Refused BadWindow ≡ told
   unfolding inOrder
@@ -108,20 +108,20 @@ module _ (n : ℕ) (t : Table) (a b w k : ℕ) (rest : List Check) where
   whole =
       inOrder (checkHours n ∷ checkRoom (tableShort n t) ∷ checkWindow n a b ∷ checkColumn w k ∷ rest)
 
-  parted : whole ≡ andThen (lentChecks n t) (andThen (windowChecks n a b w k) (inOrder rest))
+  parted : whole ≡ andThen (lentCheck n t) (andThen (windowCheck n a b w k) (inOrder rest))
   parted =
       in-order-append (checkHours n ∷ checkRoom (tableShort n t) ∷ []) _
-      ∙ ap (andThen (lentChecks n t)) (in-order-append (checkWindow n a b ∷ checkColumn w k ∷ []) _)
+      ∙ ap (andThen (lentCheck n t)) (in-order-append (checkWindow n a b ∷ checkColumn w k ∷ []) _)
 
-  pub lent-refused : (why : Refusal) → Taking.Refused why ≡ answerBy Taking.Refused (lentChecks n t) Taking.Taken
+  pub lent-refused : (why : Refusal) → Taking.Refused why ≡ answerBy Taking.Refused (lentCheck n t) Taking.Taken
       → whole ≡ refuses why
-  lent-refused why e = parted ∙ rw (refused-refuses (lentChecks n t) why e)
+  lent-refused why e = parted ∙ rw (refused-refuses (lentCheck n t) why e)
 
-  module _ (lends : lentChecks n t ≡ passes) where
+  module _ (lends : lentCheck n t ≡ passes) where
     pub window-refused : (why : Refusal) → Edges.Refused why ≡ told n a b w k → whole ≡ refuses why
-    window-refused why e = parted ∙ rw (lends, edges-refused (windowChecks n a b w k) (column a b w k) why e)
+    window-refused why e = parted ∙ rw (lends, edges-refused (windowCheck n a b w k) (column a b w k) why e)
 
-    pub window-passed : windowChecks n a b w k ≡ passes → whole ≡ inOrder rest
+    pub window-passed : windowCheck n a b w k ≡ passes → whole ≡ inOrder rest
     window-passed e = parted ∙ rw (lends, e)
 
 -- The edges alone have no check 3.
@@ -129,7 +129,7 @@ pub edges-hours : (n a b w k : ℕ) → badHours n ≡ true → inOrder (edgesCh
 unfolding inOrder
 edges-hours n a b w k bad = rw bad
 
-pub edges-parted : (n a b w k : ℕ) → badHours n ≡ false → inOrder (edgesChecks n a b w k) ≡ windowChecks n a b w k
+pub edges-parted : (n a b w k : ℕ) → badHours n ≡ false → inOrder (edgesChecks n a b w k) ≡ windowCheck n a b w k
 unfolding inOrder
 edges-parted n a b w k good = rw good
 
@@ -138,17 +138,17 @@ module _ (n : ℕ) (t : Table) (d : ℕ) (four : Check) where
   abbrev day-whole : Check
   day-whole = inOrder (checkHours n ∷ checkRoom (tableShort n t) ∷ checkDay n d ∷ four ∷ [])
 
-  day-parted : day-whole ≡ andThen (lentChecks n t) (andThen (checkDay n d) four)
+  day-parted : day-whole ≡ andThen (lentCheck n t) (andThen (checkDay n d) four)
   unfolding inOrder
   day-parted =
       in-order-append (checkHours n ∷ checkRoom (tableShort n t) ∷ []) (checkDay n d ∷ four ∷ [])
       ∙ rw (then-passes four)
 
-  pub day-lent-refused : (why : Refusal) → Taking.Refused why ≡ answerBy Taking.Refused (lentChecks n t) Taking.Taken
+  pub day-lent-refused : (why : Refusal) → Taking.Refused why ≡ answerBy Taking.Refused (lentCheck n t) Taking.Taken
       → day-whole ≡ refuses why
-  day-lent-refused why e = day-parted ∙ rw (refused-refuses (lentChecks n t) why e)
+  day-lent-refused why e = day-parted ∙ rw (refused-refuses (lentCheck n t) why e)
 
-  module _ (lends : lentChecks n t ≡ passes) where
+  module _ (lends : lentCheck n t ≡ passes) where
     pub day-late : n ≤ dayHours * d → day-whole ≡ refuses BadWindow
     day-late h = day-parted ∙ rw (lends, le-leb n (dayHours * d) h)
 

@@ -70,7 +70,7 @@ placed : {l : ℕ} (t : Table) (v : Node) → InTree l v → (at : Reached) → 
 placed t v i at e =
     rw e
     (record {
-      located = record { deep = i .deep; among = i .among; numbered = refl; begins = refl; covers = refl };
+      located = record { inTree = i; numbered = refl; begins = refl; covers = refl };
       range = refl;
     })
 

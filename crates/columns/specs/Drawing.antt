@@ -1,8 +1,8 @@
 -- What the inner functions of the columns promise; the calls themselves cite om3's definitions. Assumes nothing.
 --
 --   Edged a b w k          the numbers of an edge are small enough to compute with
---   lentChecks n t         checks 1 and 3 of a table
---   windowChecks           checks 5 and 6
+--   lentCheck n t          checks 1 and 3 of a table, as one
+--   windowCheck            checks 5 and 6, as one
 --   innerRange i           the range over the nodes of an inner range
 --   StoppedOver            the contract of a column stopped at nodes of so many hours, its buffers lent
 --   StoppedAt              the contract of check 7 and of the column stopped at that depth, its buffers lent
@@ -46,12 +46,12 @@ pub record Edged (a b w k : ℕ) : Type 0 where
   pub among : k ≤ w
 
 -- Checks 1 and 3, of the table, come first. [refusals 17]
-abbrev pub lentChecks : ℕ → Table → Check
-lentChecks n t = inOrder (checkHours n ∷ checkRoom (tableShort n t) ∷ [])
+abbrev pub lentCheck : ℕ → Table → Check
+lentCheck n t = inOrder (checkHours n ∷ checkRoom (tableShort n t) ∷ [])
 
 -- Checks 5 and 6, of the window and of its columns, come next. [refusals 17]
-abbrev pub windowChecks : (n a b w k : ℕ) → Check
-windowChecks n a b w k = inOrder (checkWindow n a b ∷ checkColumn w k ∷ [])
+abbrev pub windowCheck : (n a b w k : ℕ) → Check
+windowCheck n a b w k = inOrder (checkWindow n a b ∷ checkColumn w k ∷ [])
 
 -- No nodes: the empty range. [columns 11]
 abbrev pub innerRange : Inner → Range
@@ -79,18 +79,18 @@ pub record StoppedAt (n : ℕ) (cs : List ℤ) (ks : List ℕ) (x : Column) (d :
 -- Both from −1,000,000 to 2,000,003, so that their difference is a number of 32 bits.
 abbrev pub SmallAnswer : Answer → Type 0
 SmallAnswer Answer.NoReading = Unit
-SmallAnswer (Answer.Found s) = Small (s .first .grams) × Small (s .last .grams)
+SmallAnswer (Answer.Found summary) = Small (summary .first .grams) × Small (summary .last .grams)
 
 -- If r is an answer and no refusal, it is a small one.
 pub record Answers (r : Finished) : Type 0 where
   pub small : (a : Answer) (m : ℕ) → r ≡ Finished.Answered a m → SmallAnswer a
 
--- The walk to the first reading is examined from u down, then that to the last from v down. [columns 15, 16]
+-- The walk to the first reading is examined from u down, then that to the last from v down. [columns 16]
 abbrev pub walksCheck : (l n : ℕ) → Table → Node → Node → Check
 walksCheck l n t u v =
     andThen (examineNodes l n t (nodesOf l (firstWalk l t u))) (examineNodes l n t (nodesOf l (lastWalk l t v)))
 
--- The readings at the ends of the two walks, with the low and the high of the inner range. [columns 15, 16]
+-- The readings at the ends of the two walks, with the low and the high of the inner range. [columns 13]
 abbrev pub foundOf : (l : ℕ) → Table → Range → Node → Node → Answer
 foundOf l t range u v =
     Answer.Found

@@ -31,7 +31,7 @@ ghost use Rattle.om3.specs.Joined.{joined};
 ghost use Rattle.om3.specs.Days.{dayChange};
 ghost use Rattle.sizes.specs.Lent.{TableLent};
 ghost use Rattle.walking.specs.Nodes.{Below};
-ghost use Rattle.columns.specs.Drawing.{lentChecks, innerRange};
+ghost use Rattle.columns.specs.Drawing.{lentCheck, innerRange};
 ghost use Rattle.columns.specs.Drawing.{StoppedOver, StoppedAt, FoundFrom, FinishedOver};
 
 // The count of a column without an hour.
@@ -50,7 +50,7 @@ pub fn edges(n: usize, a: Timestamp, b: Timestamp, w: usize, k: usize) -> Edges
 // Checks 1 and 3 of a table.
 fn check_lent(n: usize, coefficients: &[i32], codes: &[u8]) -> Taking
     ensures { λ r. ⌜ r ≡ answerBy Taking.Refused
-        (lentChecks n (table (now (coefficients .entry)) (now (codes .entry)))) Taking.Taken ⌝ }
+        (lentCheck n (table (now (coefficients .entry)) (now (codes .entry)))) Taking.Taken ⌝ }
 {
     if sizes::bad_hours(n) {
         return Taking::Refused(Refusal::BadHours);

@@ -10,7 +10,7 @@ ghost use lib.Dec.{leb, ltb, eqb};
 ghost use Rattle.words.specs.Constants.{largestHours, mostColumns};
 ghost use Rattle.om3.specs.Checks.{answerBy};
 ghost use Rattle.om3.specs.Columns.{edge as edgeOf, column as columnOf};
-ghost use Rattle.columns.specs.Drawing.{Edged, windowChecks};
+ghost use Rattle.columns.specs.Drawing.{Edged, windowCheck};
 
 // Check 5: whether [a, b) is no window of n hours.
 fn bad_window(n: usize, a: Timestamp, b: Timestamp) -> bool
@@ -53,7 +53,7 @@ fn edge(a: Timestamp, b: Timestamp, w: usize, k: usize) -> Timestamp
 // Checks 5 and 6, and then the column's hours. Needs n to be at most 16,384.
 pub fn column_of(n: usize, a: Timestamp, b: Timestamp, w: usize, k: usize) -> Edges
     requires { ⌜ n ≤ largestHours ⌝ }
-    ensures { λ r. ⌜ r ≡ answerBy Edges.Refused (windowChecks n (a .0) (b .0) w k)
+    ensures { λ r. ⌜ r ≡ answerBy Edges.Refused (windowCheck n (a .0) (b .0) w k)
         (Edges.Hours (columnOf (a .0) (b .0) w k)) ⌝ }
 {
     if bad_window(n, a, b) {

@@ -5,7 +5,7 @@ use mathlib.Core.Logic.{⊎-elim}
 use Prim.Native.Nat.{ℕ, suc, _+_, _-_, _*_, _/_, _^_, _≤_, _<_}
 use native.Mathlib.Omega.{arith}
 use lib.Pow.{pow-mono}
-use Rattle.om3.specs.Nodes.{Node, InTree, root, left, right, width}
+use Rattle.om3.specs.Nodes.{Node, root, left, right, width}
 use Rattle.om3.proofs.Tests.{below-or-not}
 use Rattle.om3.proofs.Nodes.{start-root, width-root, width-half, width-right, start-left, start-right}
 use Rattle.om3.proofs.Nodes.{number-left, number-right, left-in, right-in}
@@ -13,19 +13,21 @@ use Rattle.node.specs.Located.{Located}
 
 pub root-located : (l : ℕ) → Located l root 1 0 (2 ^ l)
 root-located l =
-    record { deep = omega arith; among = omega arith; numbered = refl; begins = start-root l; covers = width-root l }
+    record {
+      inTree = record { deep = omega arith; among = omega arith };
+      numbered = refl;
+      begins = start-root l;
+      covers = width-root l;
+    }
 
 module _ {l : ℕ} {v : Node} {i f w : ℕ} (at : Located l v i f w) where
-  pub located-in : InTree l v
-  located-in = record { deep = at .deep; among = at .among }
-
   -- How many hours a node covers tells its level: two or three are a pair's, four or more no pair's.
   pub above-hours : 2 ≤ w → v .level < l
   unfolding width
   above-hours h =
       ⊎-elim (λ p. p)
       (λ p.
-      let d = at .deep in
+      let d = at .inTree .deep in
       let z : l - v .level ≡ 0 = omega arith in
       let y : 2 ^ (l - v .level) ≡ 1 = rw z in
       absurd (omega (arith, at .covers)))
@@ -72,8 +74,7 @@ module _ {l : ℕ} {v : Node} {i f w : ℕ} (at : Located l v i f w) where
     pub left-located : Located l (left v) (2 * i) f (w / 2)
     left-located =
         record {
-          deep = b;
-          among = left-in located-in b .among;
+          inTree = left-in (at .inTree) b;
           numbered = omega (arith, number-left v, at .numbered);
           begins = start-left l v b ∙ at .begins;
           covers = half;
@@ -82,8 +83,7 @@ module _ {l : ℕ} {v : Node} {i f w : ℕ} (at : Located l v i f w) where
     pub right-located : Located l (right v) (2 * i + 1) (f + w / 2) (w / 2)
     right-located =
         record {
-          deep = b;
-          among = right-in located-in b .among;
+          inTree = right-in (at .inTree) b;
           numbered = omega (arith, number-right v, at .numbered);
           begins = omega (arith, start-right l v b, at .begins, half);
           covers = width-right l v b ∙ half;

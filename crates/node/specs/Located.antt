@@ -2,12 +2,11 @@
 --
 --   Located l v i f w   node v of a table of l levels has number i and covers the w hours from hour f on
 use mathlib.Core.Path.{_≡_}
-use Prim.Native.Nat.{ℕ, _^_, _≤_, _<_}
-use Rattle.om3.specs.Nodes.{Node, number, start, width}
+use Prim.Native.Nat.{ℕ}
+use Rattle.om3.specs.Nodes.{Node, InTree, number, start, width}
 
 pub record Located (l : ℕ) (v : Node) (i f w : ℕ) : Type 0 where
-  pub deep : v .level ≤ l
-  pub among : v .index < 2 ^ v .level
+  pub inTree : InTree l v
   pub numbered : number v .0 ≡ i
   pub begins : start l v ≡ f
   pub covers : width l v ≡ w

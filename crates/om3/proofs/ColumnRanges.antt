@@ -12,7 +12,7 @@ use Rattle.words.specs.declared.Column.{Column}
 use Rattle.om3.specs.Series.{isGap, Series, levels, hourOf}
 use Rattle.om3.specs.Table.{Table, HasTable}
 use Rattle.om3.specs.Columns.{inColumn}
-use Rattle.om3.specs.Stopped.{countAt, outer}
+use Rattle.om3.specs.Stopped.{outer}
 use Rattle.om3.specs.Finished.{count}
 use Rattle.om3.specs.Looked.{Covers}
 use Rattle.om3.specs.Drawn.{Ranged}
@@ -23,15 +23,11 @@ use Rattle.om3.proofs.Counted.{count-most, count-at-0}
 use Rattle.om3.proofs.DepthsLooked.{DepthRanges, depth-ranges}
 use Rattle.om3.proofs.FinishedAnswers.{finished-count}
 
-module _ (n : ℕ) (t : Table) (x : Column) where
-  pub count-of-most : (d : ℕ) → 1 ≤ d → d ≤ levels n → countAt (levels n) t x d ≤ 4 * d - 1
-  count-of-most d some deep = count-most (levels n) t x d deep some
-
-  -- The finished count is at most 6·l − 1.
-  pub finished-most : count (levels n) t x ≤ 6 * levels n - 1
-  finished-most =
-      let o = levels-some n in
-      finished-count (levels n) t x o (count-of-most (levels n) o (le-refl (levels n)))
+-- The finished count is at most 6·l − 1.
+finished-most : (n : ℕ) (t : Table) (x : Column) → count (levels n) t x ≤ 6 * levels n - 1
+finished-most n t x =
+    let o = levels-some n in
+    finished-count (levels n) t x o (count-most (levels n) t x (levels n) (le-refl (levels n)) o)
 
 -- A table that some series has, and any column of its hours.
 module _ (n : ℕ) (s : List ℤ) (t : Table) (series : Series n s) (has : HasTable n s t) (x : Column)
@@ -61,7 +57,7 @@ module _ (n : ℕ) (s : List ℤ) (t : Table) (series : Series n s) (has : HasTa
         widens = λ d e p q. depths .widens d e p;
         agrees = depths .agrees;
         looks = depths .looks fits;
-        least = count-at-0 l t x;
-        most = count-of-most n t x;
+        at-root = count-at-0 l t x;
+        most = λ d some deep. count-most l t x d deep some;
         finished = finished-most n t x;
       }

@@ -15,8 +15,9 @@ use Rattle.words.specs.Constants.{largestHours, largestReading, gap}
 use Rattle.words.specs.Said.{lowOf}
 use Rattle.words.specs.declared.Range.{Range}
 use Rattle.words.specs.declared.Range.the-variants.{Empty, Held}
+use Rattle.words.specs.Bounds.{Readings}
 use Rattle.om3.specs.Series.{isReading, isGap, Series, levels, P, hour, hourOf}
-use Rattle.om3.specs.Ranges.{Readings, rangeOf}
+use Rattle.om3.specs.Ranges.{rangeOf}
 use Rattle.om3.specs.Nodes.{Node, InTree}
 use Rattle.om3.specs.Table.{Table, coefficient, codeOfPlace, tableOf, HasTable}
 use Rattle.om3.specs.Down.{reachedAt, reached, turnedBack}

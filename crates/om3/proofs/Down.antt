@@ -15,8 +15,9 @@ use Rattle.words.specs.Constants.{largestDetail, leftMark, rightMark, gapMark}
 use Rattle.words.specs.Said.{lowOf, highOf}
 use Rattle.words.specs.declared.Range.{Range}
 use Rattle.words.specs.declared.Range.the-variants.{Empty, Held}
+use Rattle.words.specs.Bounds.{Readings}
 use Rattle.om3.specs.Series.{isGap}
-use Rattle.om3.specs.Ranges.{hourRange, both, Readings}
+use Rattle.om3.specs.Ranges.{hourRange, both}
 use Rattle.om3.specs.Table.{lowDetail, highDetail, code}
 use Rattle.om3.specs.Down.{leftLow, rightLow, leftHigh, rightHigh, leftHalf, rightHalf}
 use Rattle.om3.specs.Down.{firstOfPair, secondOfPair, rootRange}

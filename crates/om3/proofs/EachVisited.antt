@@ -52,7 +52,7 @@ module _ (l : ℕ) (t : Table) (x : Column) where
       opens-opened l t x e v
       (record { reading = o .reading; sharing = o .sharing; partly = o .partly; shallow = omega arith })
 
--- P h v is what is to be shown of node v, below which there are h levels: of a node where the walk ends, and of one
+-- P h v is what is to be shown of node v, below which there are h levels: of a node where the visit ends, and of one
 -- where it goes on.
 module _ (l : ℕ) (t : Table) (x : Column) (d : ℕ) (P : ℕ → Node → Type 0) where
   abbrev pub AtEnds : Type 0

@@ -1,6 +1,6 @@
 -- The nodes listed below a node of the tree lie in the tree, and those kept of a list pass the test they are kept by:
--- opened nodes are of a level below the depth, inner nodes have a reading. The non-empty inside visited nodes are those
--- of the inner range at depth l, since an inside node is not opened and shares its hours. Assumes nothing.
+-- opened nodes are of a level below the depth, inside nodes have a reading. The non-empty inside visited nodes are
+-- those of the inner range at depth l, since an inside node is not opened and shares its hours. Assumes nothing.
 use mathlib.Core.Path.{_≡_, refl, sym, ap, fun-ext, _∙_}
 use mathlib.Core.Bool.{Bool, true, false, cond, not, _&&_}
 use mathlib.Core.List.{List, [], _∷_}
@@ -13,10 +13,10 @@ use Rattle.om3.specs.Lists.{keep}
 use Rattle.om3.specs.Nodes.{Node, InTree, root, left, right}
 use Rattle.om3.specs.Table.{Table}
 use Rattle.om3.specs.Sound.{nodesBelow, allNodes}
-use Rattle.om3.specs.Stopped.{hasReading, shares, inside, opened, visited, openedNodes, isOuter, isInner}
+use Rattle.om3.specs.Stopped.{hasReading, shares, inside, opened, visited, openedNodes, isInner}
 use Rattle.om3.specs.Stopped.{innerNodes}
 use Rattle.om3.specs.Finished.{insideNodes}
-use Rattle.om3.proofs.Tests.{and-left, and-right}
+use Rattle.om3.proofs.Tests.{and-left}
 use Rattle.om3.proofs.Listed.{All, all-append, all-map}
 use Rattle.om3.proofs.Intervals.{inside-shares}
 use Rattle.om3.proofs.Opened.{opened-opens, unopened-if}
@@ -65,19 +65,6 @@ module _ (l : ℕ) (t : Table) (x : Column) (d : ℕ) where
       (λ v p. record { inTree = p .0; above = omega (arith, opened-opens l t x d v (p .1) .shallow) })
       (openedNodes l t x d) (all-kept (InTree l) (opened l t x d) (allNodes l) (all-in l))
 
-  inner-reading : (v : Node) → isInner l t x d v ≡ true → hasReading l t v ≡ true
-  inner-reading v e =
-      let M = visited l t x d v && not (opened l t x d v) in
-      let R = hasReading l t v in
-      and-right M R (and-left (M && R) (shares l x v) (and-left (isOuter l t x d v) (inside l x v) e))
-
-  pub inner-non-empty : All (NonEmpty l t) (innerNodes l t x d)
-  unfolding innerNodes
-  inner-non-empty =
-      all-map (λ v. InTree l v × (isInner l t x d v ≡ true)) (NonEmpty l t)
-      (λ v p. record { inTree = p .0; reading = inner-reading v (p .1) })
-      (innerNodes l t x d) (all-kept (InTree l) (isInner l t x d) (allNodes l) (all-in l))
-
 -- Of an inside node, the tests for the inner range ask beside these only what holds of it.
 inside-test : (reads within visits opens shared : Bool) → (within ≡ true → (opens ≡ false) × (shared ≡ true))
     → (reads && within && visits) ≡ (visits && not opens && reads && shared && within)
@@ -109,4 +96,12 @@ inside-inner l t x = ap (λ (p : Node → Bool). keep p (allNodes l)) (fun-ext (
         (λ e. (unopened v e, inside-shares l x v e))
 
 pub inside-non-empty : (l : ℕ) (t : Table) (x : Column) → All (NonEmpty l t) (insideNodes l t x)
-inside-non-empty l t x = rw (inside-inner l t x) (inner-non-empty l t x l)
+unfolding insideNodes
+inside-non-empty l t x =
+    all-map (λ v. InTree l v × ((hasReading l t v && inside l x v && visited l t x l v) ≡ true)) (NonEmpty l t)
+    (λ v p.
+    let R = hasReading l t v in
+    let I = inside l x v in
+    record { inTree = p .0; reading = and-left R I (and-left (R && I) (visited l t x l v) (p .1)) })
+    (insideNodes l t x)
+    (all-kept (InTree l) (λ v. hasReading l t v && inside l x v && visited l t x l v) (allNodes l) (all-in l))

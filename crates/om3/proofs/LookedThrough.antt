@@ -16,7 +16,7 @@ use Rattle.om3.specs.Lists.{keep, lastOf}
 use Rattle.om3.specs.Series.{isGap, hourOf, hoursFrom}
 use Rattle.om3.specs.Ranges.{hourRange, both, look}
 use Rattle.om3.specs.Joined.{joined}
-use Rattle.om3.specs.Looked.{readingOf, readingsIn, least, greatest, answerOf, lookThrough}
+use Rattle.om3.specs.Looked.{readingOf, readingsIn, least, greatest, lookOver, lookThrough}
 use Rattle.om3.proofs.Ranges.{min-assoc, max-assoc}
 use Rattle.om3.proofs.Answers.{joined-right}
 use Rattle.om3.proofs.Windows.{hours-cut}
@@ -50,7 +50,7 @@ abbrev answerOne : Reading → Answer
 answerOne r = Found (record { first = r; last = r; low = r .grams; high = r .grams })
 
 -- One reading before others: it is the first of all.
-one-more : (r : Reading) (rs : List Reading) → answerOf (r ∷ rs) ≡ joined (answerOne r) (answerOf rs)
+one-more : (r : Reading) (rs : List Reading) → lookOver (r ∷ rs) ≡ joined (answerOne r) (lookOver rs)
 unfolding lastOf least greatest
 one-more r [] = refl
 one-more r (q ∷ qs) = refl
@@ -69,8 +69,8 @@ module _ (n : ℕ) (s : List ℤ) where
   unfolding lookThrough readingsIn keep
   look-through-more h hs = by (isGap (hourOf n s h)) (keep (λ g. not (isGap (hourOf n s g))) hs)
     where
-      by : (b : Bool) (kept : List Timestamp) → answerOf (map (readingOf n s) (cond (not b) (h ∷ kept) kept))
-          ≡ joined (cond b NoReading (answerOne (readingOf n s h))) (answerOf (map (readingOf n s) kept))
+      by : (b : Bool) (kept : List Timestamp) → lookOver (map (readingOf n s) (cond (not b) (h ∷ kept) kept))
+          ≡ joined (cond b NoReading (answerOne (readingOf n s h))) (lookOver (map (readingOf n s) kept))
       by true kept = refl
       by false kept = one-more (readingOf n s h) (map (readingOf n s) kept)
 

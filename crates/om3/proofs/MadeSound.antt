@@ -17,9 +17,10 @@ use Rattle.words.specs.Constants.{largestReading, largestDetail, leftMark, righ
 use Rattle.words.specs.Said.{lowOf, highOf}
 use Rattle.words.specs.declared.Range.{Range}
 use Rattle.words.specs.declared.Range.the-variants.{Empty, Held}
+use Rattle.words.specs.Bounds.{Readings}
 use Rattle.om3.specs.Series.{isReading, isGap, Holds, hour, hourOf}
 use Rattle.om3.specs.Nodes.{Node, InTree, root, left, right, start, firstHour}
-use Rattle.om3.specs.Ranges.{hourRange, both, rangeOf, isEmpty, Readings}
+use Rattle.om3.specs.Ranges.{hourRange, both, rangeOf, isEmpty}
 use Rattle.om3.specs.Table.{Table, lowDetail, highDetail, code, pairCode, tableOf}
 use Rattle.om3.specs.Down.{leftHalf, coefficientAt}
 use Rattle.om3.specs.Sound.{isDetail, ordered, bothAre, soundDetails, soundCode, gapFrom, soundNode}
@@ -84,11 +85,11 @@ code-sound x y = by (isGap x) (isGap y) (ltZ x y) refl
     by false false false e = refl
 
 -- Hours from n on are gaps.
-late-gap : (n : ℕ) (s : List ℤ) (t : ℕ) → gapFrom n (hour t) (hourRange (hourOf n s (hour t))) ≡ true
+late-gap : (n : ℕ) (s : List ℤ) (h : ℕ) → gapFrom n (hour h) (hourRange (hourOf n s (hour h))) ≡ true
 unfolding hourOf
-late-gap n s t = by (ltb t n)
+late-gap n s h = by (ltb h n)
   where
-    by : (b : Bool) → (b || isEmpty (hourRange (cond b (getD s t gap) gap))) ≡ true
+    by : (b : Bool) → (b || isEmpty (hourRange (cond b (getD s h gap) gap))) ≡ true
     by true = refl
     by false = refl
 

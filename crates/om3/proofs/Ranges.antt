@@ -18,9 +18,10 @@ use Rattle.words.specs.Said.{lowOf}
 use Rattle.words.specs.declared.Timestamp.{Timestamp}
 use Rattle.words.specs.declared.Range.{Range}
 use Rattle.words.specs.declared.Range.the-variants.{Empty, Held}
+use Rattle.words.specs.Bounds.{Readings}
 use Rattle.om3.specs.Series.{isReading, isGap, Holds, hourOf}
 use Rattle.om3.specs.Nodes.{Node, left, right, hours}
-use Rattle.om3.specs.Ranges.{hourRange, both, Readings, look, rangeOf}
+use Rattle.om3.specs.Ranges.{hourRange, both, look, rangeOf}
 use Rattle.om3.proofs.Tests.{or-cases, between}
 use Rattle.om3.proofs.Nodes.{hours-halves}
 

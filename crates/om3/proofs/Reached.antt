@@ -8,9 +8,10 @@ use native.Mathlib.Omega.{arith}
 use lib.IntN.{ℤ}
 use borrow.Author.Tests.{eq-eqb, ne-eqb}
 use Rattle.words.specs.declared.Range.{Range}
+use Rattle.words.specs.Bounds.{Readings}
 use Rattle.om3.specs.Series.{Holds, hour, hourOf}
 use Rattle.om3.specs.Nodes.{Node, InTree, root, left, right, start}
-use Rattle.om3.specs.Ranges.{rangeOf, Readings}
+use Rattle.om3.specs.Ranges.{rangeOf}
 use Rattle.om3.specs.Table.{Table, pairCode, tableOf}
 use Rattle.om3.specs.Down.{coefficientAt, rootRange, leftOf, rightOf, reachedAt, reached}
 use Rattle.om3.proofs.Tests.{even-or-odd}

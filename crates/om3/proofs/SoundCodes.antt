@@ -14,8 +14,9 @@ use Rattle.signed.proofs.Rules.{signed}
 use Rattle.words.specs.Said.{lowOf}
 use Rattle.words.specs.declared.Range.{Range}
 use Rattle.words.specs.declared.Range.the-variants.{Empty, Held}
+use Rattle.words.specs.Bounds.{Readings}
 use Rattle.om3.specs.Series.{isGap}
-use Rattle.om3.specs.Ranges.{hourRange, Readings}
+use Rattle.om3.specs.Ranges.{hourRange}
 use Rattle.om3.specs.Table.{code}
 use Rattle.om3.specs.Down.{firstOfPair, secondOfPair}
 use Rattle.om3.specs.Sound.{soundCode}

@@ -15,8 +15,9 @@ use Rattle.words.specs.Constants.{largestReading, largestDetail, leftMark, righ
 use Rattle.words.specs.Said.{lowOf, highOf}
 use Rattle.words.specs.declared.Range.{Range}
 use Rattle.words.specs.declared.Range.the-variants.{Empty, Held}
+use Rattle.words.specs.Bounds.{Readings}
 use Rattle.om3.specs.Series.{isReading, isGap}
-use Rattle.om3.specs.Ranges.{both, Readings}
+use Rattle.om3.specs.Ranges.{both}
 use Rattle.om3.specs.Table.{lowDetail, highDetail}
 use Rattle.om3.specs.Down.{leftLow, rightLow, leftHigh, rightHigh, leftHalf, rightHalf}
 use Rattle.om3.specs.Down.{rootRange}

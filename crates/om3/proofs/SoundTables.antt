@@ -9,10 +9,11 @@ use native.Mathlib.Omega.{arith}
 use lib.IntN.{ℤ}
 use Rattle.words.specs.Said.{lowOf}
 use Rattle.words.specs.declared.Range.{Range}
+use Rattle.words.specs.Bounds.{Readings}
 use Rattle.om3.specs.Lists.{every}
 use Rattle.om3.specs.Series.{hour}
 use Rattle.om3.specs.Nodes.{Node, InTree, number, left, right, start, firstHour}
-use Rattle.om3.specs.Ranges.{hourRange, Readings}
+use Rattle.om3.specs.Ranges.{hourRange}
 use Rattle.om3.specs.Table.{Table}
 use Rattle.om3.specs.Down.{leftHalf, rightHalf, firstOfPair, secondOfPair, coefficientAt, lowDetailAt}
 use Rattle.om3.specs.Down.{highDetailAt, codeAt, reachedAt, reached}

@@ -15,8 +15,8 @@ use Rattle.words.specs.Constants.{largestDetail}
 use Rattle.words.specs.Said.{lowOf, highOf}
 use Rattle.words.specs.declared.Range.{Range}
 use Rattle.words.specs.declared.Range.the-variants.{Empty, Held}
+use Rattle.words.specs.Bounds.{Readings}
 use Rattle.om3.specs.Nodes.{Node, InTree, number}
-use Rattle.om3.specs.Ranges.{Readings}
 use Rattle.om3.specs.Table.{Table, lowDetail, highDetail}
 use Rattle.om3.specs.Down.{leftHalf, rightHalf, rootRange, coefficientAt, lowDetailAt, highDetailAt, reached}
 use Rattle.om3.specs.Sound.{soundTable}

@@ -4,7 +4,7 @@
 --   refuseIf b why   the check that refuses by the cause `why` exactly when b is true
 --   andThen c next   the check c, and where it passes the check `next`
 --   inOrder cs       the first check of a list that refuses decides; where all pass, the call is taken
---   answerBy         what a call answers: refused as its checks refuse, else this
+--   answerBy         what a call answers: `refused why` where its checks refuse by `why`, else `taken`
 --   FirstCause       the first check of a list that refuses does so by this cause
 use mathlib.Core.Path.{_≡_}
 use mathlib.Core.Bool.{Bool, true, false}

@@ -1,7 +1,7 @@
 -- Document 01, "Columns": the edges of a window's columns. Assumes nothing.
 --
 --   ceil m w           m / w rounded up
---   edge a b w k       the first hour of column k of the window [a, b) in w columns
+--   edge a b w k       where column k of the window [a, b) in w columns begins; for k = w, where the window ends
 --   column a b w k     column k of the window [a, b) drawn in w columns
 --   inColumn x h       whether hour h is in column x
 --   columnHours x      the hours of a column, in order
@@ -24,7 +24,8 @@ ceil m w = (m + (w - 1)) / w
 
 -- Of a window [a, b) of L = b − a hours: a + ceil(k·L / w). [columns 1, 2]
 -- Deviation: document 003 uses a fractional step; this is document 004's cut. [columns 3, 4]
--- Deviation: document 004's Definition 2 has round(n/w) values a column, counted from 1; its Algorithm 1 cuts so.
+-- Deviation: document 004's Definition 2 has round(n/w) values a column, counted from 1; we cut as its Algorithm 1
+-- does, by floor(w·t/n).
 abbrev pub edge : (a b w k : ℕ) → Timestamp
 edge a b w k = hour (a + ceil (k * (b - a)) w)
 

@@ -1,7 +1,7 @@
 -- Document 01, "Columns": the day change. Assumes nothing.
 --
 --   day n d           the hours of day d of n hours
---   changeOf a        last reading minus first reading of an answer, or no reading
+--   changeOf answer   last reading minus first reading of an answer, or no reading
 --   dayChecks n t d   the checks of the call for the day change; dayChange n t d, what it answers
 use mathlib.Core.List.{List, [], _∷_}
 use Prim.Native.Nat.{ℕ, _+_, _*_, min}

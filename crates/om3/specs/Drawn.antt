@@ -41,8 +41,8 @@ pub record Ranged (n : ℕ) (s : List ℤ) (t : Table) (x : Column) : Type 0 whe
   -- At depth l the two agree: each goes from the column's lowest reading to its highest, and is absent if it has none.
   pub agrees : outer (levels n) t x (levels n) ≡ inner (levels n) t x (levels n)
   pub looks : inner (levels n) t x (levels n) ≡ look (map (hourOf n s) (columnHours x))
-  -- At depth 0 at most one node, none if the column has no hour; at any other depth d at most 4·d − 1. [columns 9]
-  pub least : countAt (levels n) t x 0 ≤ 1
+  -- At depth 0 at most one node, at any other depth d at most 4·d − 1. [columns 9]
+  pub at-root : countAt (levels n) t x 0 ≤ 1
   pub most : (d : ℕ) → 1 ≤ d → d ≤ levels n → countAt (levels n) t x d ≤ 4 * d - 1
   -- Finished, at most 6·l − 1.
   pub finished : count (levels n) t x ≤ 6 * levels n - 1

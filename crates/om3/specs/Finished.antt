@@ -12,7 +12,7 @@
 --   answer, count                   what a finished column says, and its count
 --   finishedNodes                   the nodes that it examines
 --   finishedChecks                  the checks of the call for a finished column; finished n t a b w k, what it answers
-use mathlib.Core.Bool.{Bool, cond, _&&_}
+use mathlib.Core.Bool.{cond, _&&_}
 use mathlib.Core.List.{List, [], _∷_, _++_, map, flatMap}
 use Prim.Native.Nat.{ℕ, zero, suc, _+_, _-_}
 use Rattle.words.specs.Said.{lowOf, highOf}
@@ -82,7 +82,8 @@ module _ (l : ℕ) (t : Table) where
 
   -- First and last reading, each with its hour, at the ends of the walks, and the low and the high of these nodes; no
   -- node, no reading. [columns 13, 14]
-  -- Deviation: in document 004 the lowest and the highest have their times too; document 01 asks for grams alone.
+  -- Deviation: document 004's Algorithm 1 records a column's lowest and highest value alone; document 01 asks for its
+  -- first and its last reading too, with their hours.
   abbrev pub answerFrom : List Node → Answer
   answerFrom [] = Answer.NoReading
   answerFrom (v ∷ vs) =

@@ -4,7 +4,7 @@
 --   readingsIn n s hs    of the hours hs those that hold a reading, each with it; readingOf n s h, that of hour h
 --   least z zs           the least of z and the numbers zs that follow it; greatest, the greatest
 --   gramsIn readings     what they weigh
---   answerOf readings    first, last, lowest and highest of some readings, or that there is none
+--   lookOver readings    first, last, lowest and highest of some readings, or that there is none
 --   lookThrough n s hs   what a look through the hours hs of a series gives
 --   Covers r z           the reading z lies between the low and the high of the range r; no reading lies in an absent
 --                        range
@@ -24,10 +24,11 @@ use Rattle.words.specs.declared.Answer.{Answer}
 use Rattle.om3.specs.Lists.{keep, lastOf}
 use Rattle.om3.specs.Series.{isGap, hourOf}
 
--- Keep the hours that hold a reading, ..
+-- What hour h holds, with its hour.
 abbrev pub readingOf : ℕ → List ℤ → Timestamp → Reading
 readingOf n s h = record { hour = h; grams = hourOf n s h }
 
+-- Keep the hours that hold a reading, ..
 unfoldable pub readingsIn : ℕ → List ℤ → List Timestamp → List Reading
 readingsIn n s hs = map (readingOf n s) (keep (λ h. not (isGap (hourOf n s h))) hs)
 
@@ -43,9 +44,9 @@ greatest z (y ∷ ys) = maxZ z (greatest y ys)
 abbrev pub gramsIn : List Reading → List ℤ
 gramsIn readings = map (λ (reading : Reading). reading .grams) readings
 
-abbrev pub answerOf : List Reading → Answer
-answerOf [] = Answer.NoReading
-answerOf (reading ∷ further) =
+abbrev pub lookOver : List Reading → Answer
+lookOver [] = Answer.NoReading
+lookOver (reading ∷ further) =
     Answer.Found
     (record {
       first = reading;
@@ -55,7 +56,7 @@ answerOf (reading ∷ further) =
     })
 
 unfoldable pub lookThrough : ℕ → List ℤ → List Timestamp → Answer
-lookThrough n s hs = answerOf (readingsIn n s hs)
+lookThrough n s hs = lookOver (readingsIn n s hs)
 
 -- An absent range has no reading within it.
 abbrev pub Covers : Range → ℤ → Type 0

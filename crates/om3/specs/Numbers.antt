@@ -160,8 +160,9 @@ abbrev pub further : List Case
 further =
     -- the first hour of a column is a gap: its first reading is a later one [errors 3]
     (finishedFor 4 (gap ∷ g 5 ∷ g 6 ∷ g 7 ∷ []) 0 4 1 0 is shown 1 3 5 7 5 7 5)
-    -- a column without an hour: no reading, count 0 [columns 5]
+    -- a column without an hour: no reading, count 0, and the table is not examined [columns 5]
     ∷ (finishedFor 4 (gap ∷ g 5 ∷ g 6 ∷ g 7 ∷ []) 1 2 4 1 is says (taken (pos 0 ∷ [])))
+    ∷ (finishedIn 2 (g 5 ∷ g 4 ∷ []) (0 ∷ []) 0 2 4 1 is says (taken (pos 0 ∷ [])))
     -- all below the left half before the right half: pair 4 before node 3 [sound 6]
     ∷ (turningFor 8 (g 1 ∷ g 8 ∷ -g 4 ∷ -g 4 ∷ -g 2 ∷ -g 2 ∷ gap ∷ -g 2 ∷ []) (9 ∷ 1 ∷ 1 ∷ 1 ∷ []) is refused 4 4)
     -- one mark alone, and code 2 with low < high, are unsound [sound 3, 4]

@@ -44,7 +44,7 @@ pub data Question : Type 0 where
   recordFor : (n : ℕ) (s : List ℤ) → Question
   -- what writing a table answers, with so many bytes lent; what reading bytes answers, with so many coefficients and
   -- codes lent
-  writingFor : (n : ℕ) (coefficients : List ℤ) (codes : List ℕ) (room : ℕ) → Question
+  writingFor : (n : ℕ) (coefficients : List ℤ) (codes : List ℕ) (size : ℕ) → Question
   readingFor : (bytes : List ℕ) (coefficients codes : ℕ) → Question
   -- what opening bytes answers; asking them for a coefficient
   openFor : (bytes : List ℕ) → Question

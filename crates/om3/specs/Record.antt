@@ -41,7 +41,7 @@ recordOf n t =
     headerOf (recordLength n) n
     ++ flatMap threeBytes (take (P n) (t .coefficients)) ++ take (P n / 2) (t .codes)
 
--- A series of n hours has the record of its table. [record 6]
+-- A series of n hours has the record of its table. [record 2, 3, 4, 5, 6]
 abbrev pub HasRecord : ℕ → List ℤ → List ℕ → Type 0
 HasRecord n s r = r ≡ recordOf n (tableOf (levels n) n s)
 

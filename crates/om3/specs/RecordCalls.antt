@@ -1,14 +1,16 @@
 -- Document 01, "Refusal numbers" and "One level, single coefficients": writing, reading, opening and asking a record,
 -- with their checks in order. Assumes nothing.
 --
---   writingChecks n t       the checks of writing the record of a table, with so many bytes lent for it
---   writing n t             what writing answers
---   checkHeader, ..         each check of a record's bytes r, in the order in which they are made
---   openingChecks r         the checks of opening; opening r, what it answers; Openable r, what it asks of the bytes
---   unpackingChecks r t     the checks of reading, which unpacks r into the lent table t; unpacking, what it answers
---   viewChecks r places p   the checks of asking a view of the bytes r and of P = places for place p; askingView, what
---                           it answers
---   askingChecks r p        the checks of asking a record for place p; asking, what it answers
+--   writingChecks n t size   the checks of writing the record of a table, with so many bytes lent for it
+--   writing n t size         what writing answers
+--   checkHeader, checkVersion, checkLength, checkCut, checkAfter
+--                            8, 9, 10, 8 and 11, of a record's bytes r; 1 is checkHours
+--   openingChecks r          the checks of opening; opening r, what it answers; Openable r, what it asks of the bytes
+--   unpackingChecks r t      the checks of reading, which unpacks r into the lent table t; unpacking, what it answers
+--   checkPlace, checkReach   13 and 8, of a place asked for
+--   viewChecks r places p    the checks of asking a view of the bytes r and of P = places for place p; askingView, what
+--                            it answers
+--   askingChecks r p         the checks of asking a record for place p; asking, what it answers
 use mathlib.Core.Path.{_≡_}
 use mathlib.Core.Bool.{false, not, _||_}
 use mathlib.Core.List.{List, [], _∷_}
@@ -29,16 +31,16 @@ use Rattle.om3.specs.Record.{recordLength, recordSize, headerSize, lengt
 use Rattle.om3.specs.Record.{coefficientIn, tableIn}
 
 -- Writing a record: 1, 3, 4. Needed are the table, and room for the whole record. [refusals 15, 18]
-abbrev pub writingChecks : ℕ → Table → (lent : ℕ) → List Check
-writingChecks n t lent =
+abbrev pub writingChecks : ℕ → Table → (size : ℕ) → List Check
+writingChecks n t size =
     checkHours n
-    ∷ checkRoom (tableShort n t || short lent (recordSize n))
+    ∷ checkRoom (tableShort n t || short size (recordSize n))
     ∷ examineTable n t
     ∷ []
 
 -- A successful writing answers the number of bytes of the record.
-abbrev pub writing : ℕ → Table → (lent : ℕ) → Writing
-writing n t lent = answerBy Writing.Refused (inOrder (writingChecks n t lent)) (Writing.Bytes (recordSize n))
+abbrev pub writing : ℕ → Table → (size : ℕ) → Writing
+writing n t size = answerBy Writing.Refused (inOrder (writingChecks n t size)) (Writing.Bytes (recordSize n))
 
 -- 8: under 7 bytes. [refusals 8, 19]
 abbrev pub checkHeader : List ℕ → Check
@@ -72,7 +74,7 @@ openingChecks r =
     ∷ checkAfter r
     ∷ []
 
--- It answers n and P. [level 3]
+-- It answers n and P.
 unfoldable pub opening : List ℕ → Opening
 opening r = answerBy Opening.Refused (inOrder (openingChecks r)) (Opening.Record (hoursIn r) (P (hoursIn r)))
 
@@ -85,21 +87,21 @@ pub record Openable (r : List ℕ) : Type 0 where
 
 -- Reading one: under 7 bytes 8; then 9, 1, 10; fewer bytes than stated 8; more 11; then 3, 4. The lent table is to be
 -- written. [refusals 15, 19]
-abbrev pub unpackingChecks : List ℕ → (lent : Table) → List Check
-unpackingChecks r lent =
+abbrev pub unpackingChecks : List ℕ → Table → List Check
+unpackingChecks r t =
     checkHeader r
     ∷ checkVersion r
     ∷ checkHours (hoursIn r)
     ∷ checkLength r
     ∷ checkCut r
     ∷ checkAfter r
-    ∷ checkRoom (tableShort (hoursIn r) lent)
+    ∷ checkRoom (tableShort (hoursIn r) t)
     ∷ examineTable (hoursIn r) (tableIn r)
     ∷ []
 
 -- A successful reading answers n.
-abbrev pub unpacking : List ℕ → (lent : Table) → Unpacking
-unpacking r lent = answerBy Unpacking.Refused (inOrder (unpackingChecks r lent)) (Unpacking.Hours (hoursIn r))
+abbrev pub unpacking : List ℕ → Table → Unpacking
+unpacking r t = answerBy Unpacking.Refused (inOrder (unpackingChecks r t)) (Unpacking.Hours (hoursIn r))
 
 -- 13: the place is P or more. [level 3] [refusals 13]
 abbrev pub checkPlace : (places p : ℕ) → Check

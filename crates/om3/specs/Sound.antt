@@ -72,12 +72,14 @@ abbrev pub gapFrom : ℕ → Timestamp → Range → Bool
 gapFrom n h r = ltb (h .0) n || isEmpty r
 
 module _ (l n : ℕ) (t : Table) where
+  -- A pair: its code fits its range, and hours from n on come out as gaps. [sound 4]
   abbrev pub soundPair : Node → Bool
   soundPair v =
       soundCode (reached l t v) (codeAt l t (number v))
       && gapFrom n (firstHour l (left v)) (firstOfPair (reached l t v) (codeAt l t (number v)))
       && gapFrom n (firstHour l (right v)) (secondOfPair (reached l t v) (codeAt l t (number v)))
 
+  -- A pair is sound by its code and its hours, any other node by its details. [sound 2, 3, 4]
   -- Deviation: document 004 trusts its coefficients; we examine them, since a record may come damaged.
   unfoldable pub soundNode : Node → Bool
   soundNode v =

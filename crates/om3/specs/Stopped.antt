@@ -40,7 +40,8 @@ above v = record { level = v .level - 1; index = v .index / 2 }
 abbrev pub hasReading : ℕ → Table → Node → Bool
 hasReading l t v = not (isEmpty (reached l t v))
 
--- It shares an hour with the column; it lies wholly inside it.
+-- It shares an hour with the column; it lies wholly inside it. With a column without an hour none does, so that such a
+-- column has no range and no reading. [columns 5]
 unfoldable pub shares : ℕ → Column → Node → Bool
 shares l x v = any (inColumn x) (hours l v)
 
@@ -56,8 +57,9 @@ module _ (l : ℕ) (t : Table) where
 module _ (l : ℕ) (t : Table) (x : Column) where
   -- A node is opened if it has a reading, shares an hour with the column and is not wholly inside it; at depth d only a
   -- node of level below d. [columns 6, 7]
-  -- Deviation: document 004 prunes nodes whose range is covered already, and does not open pairs; we prune none, since
-  -- counts, first and last would change, and open pairs, so that low and high are exact.
+  -- Deviation: document 004 prunes nodes whose range is covered already; we prune none, since counts, first and last
+  -- would change. It takes the hours of a pair that two columns share into neither's range; we open pairs, so that low
+  -- and high are exact.
   unfoldable pub opened : ℕ → Node → Bool
   opened d v = hasReading l t v && shares l x v && not (inside l x v) && ltb (v .level) d
 

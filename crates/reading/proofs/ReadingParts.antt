@@ -21,13 +21,13 @@ use Rattle.om3.proofs.Lent.{coefficients-there, codes-there}
 use Rattle.turning.specs.declared.Verdict.{Verdict}
 use Rattle.turning.specs.Turning.{checkOf}
 use Rattle.packing.specs.Packing.{unpacked}
-use Rattle.reading.specs.Reading.{PackedTable, partsChecks, PartsRead}
+use Rattle.reading.specs.Reading.{PackedTable, partsCheck, PartsRead}
 use Rattle.reading.proofs.Examining.{unpacked-length}
 
 -- The lent buffers are cs and ds.
 module _ (n : ℕ) (bs ks : List ℕ) (cs : List ℤ) (ds : List ℕ) (t : PackedTable n bs ks) where
   abbrev checks : Check
-  checks = partsChecks n bs ks cs ds
+  checks = partsCheck n bs ks cs ds
 
   abbrev places : length bs / 3 ≡ P n
   places = omega (arith, t .coefficients)

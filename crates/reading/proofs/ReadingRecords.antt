@@ -21,7 +21,7 @@ use Rattle.om3.proofs.Making.{good-some}
 use Rattle.om3.proofs.RecordsOpened.{opens-formed, asked-unpacked}
 use Rattle.om3.proofs.RecordsTaken.{unpacking-parted}
 use Rattle.packing.specs.Packing.{coefficientFrom, unpacked}
-use Rattle.reading.specs.Reading.{PackedTable, partsChecks, PartsRead, RecordRead}
+use Rattle.reading.specs.Reading.{PackedTable, partsCheck, PartsRead, RecordRead}
 use Rattle.reading.proofs.Examining.{unpacked-length, unpacked-at}
 
 -- A part of the first b bytes is that part of all of them.
@@ -124,7 +124,7 @@ module _ (r : List ℕ) where
 
     -- So the checks that are left are those of the parts.
     module _ (cs : List ℤ) (ks : List ℕ) where
-      checks-left : partsChecks n packed codes cs ks ≡ inOrder (unpackingChecks r (lent cs ks))
+      checks-left : partsCheck n packed codes cs ks ≡ inOrder (unpackingChecks r (lent cs ks))
       checks-left = rw (unpacking-parted r (lent cs ks), o .opens, coefficients-in, codes-in, o .hours)
 
       pub parts-read : {cs′ : List ℤ} {ks′ : List ℕ} {u : Unpacking} → PartsRead n packed codes cs ks cs′ ks′ u

@@ -3,7 +3,7 @@
 --   halvesIn cs i range   what the step down from node i answers, with its details as they stand in cs
 --   FourExamined          the contract of the examination of a node of four hours and its two pairs
 --   PackedTable n bs qs   n is at most 16,384, and bs and qs are the bytes of its P coefficients and P/2 codes
---   partsChecks           the checks of reading that are left once the record is opened
+--   partsCheck            the checks of reading that are left once the record is opened, as one
 --   PartsRead             the contract of reading the parts of an opened record
 --   RecordRead            the contract of `read_record`: its answer, and the lent coefficients and codes whole
 use mathlib.Core.Path.{_≡_}
@@ -44,16 +44,16 @@ pub record PackedTable (n : ℕ) (bs qs : List ℕ) : Type 0 where
   pub codes : length qs ≡ P n / 2
 
 -- 3 and 4. [refusals 19]
-abbrev pub partsChecks : (n : ℕ) (bs qs : List ℕ) (cs : List ℤ) (ks : List ℕ) → Check
-partsChecks n bs qs cs ks =
+abbrev pub partsCheck : (n : ℕ) (bs qs : List ℕ) (cs : List ℤ) (ks : List ℕ) → Check
+partsCheck n bs qs cs ks =
     inOrder (checkRoom (tableShort n (lent cs ks)) ∷ examineTable n (lent (unpacked bs) qs) ∷ [])
 
 -- These parts become a table in the lent coefficients cs and codes ks.
 pub record PartsRead (n : ℕ) (bs qs : List ℕ) (cs : List ℤ) (ks : List ℕ) (cs′ : List ℤ) (ks′ : List ℕ)
     (r : Unpacking) : Type 0 where
-  pub answer : r ≡ answerBy Unpacking.Refused (partsChecks n bs qs cs ks) (Unpacking.Hours n)
-  pub coefficients : cs′ ≡ writtenBy (partsChecks n bs qs cs ks) (unpacked bs) cs
-  pub codes : ks′ ≡ writtenBy (partsChecks n bs qs cs ks) qs ks
+  pub answer : r ≡ answerBy Unpacking.Refused (partsCheck n bs qs cs ks) (Unpacking.Hours n)
+  pub coefficients : cs′ ≡ writtenBy (partsCheck n bs qs cs ks) (unpacked bs) cs
+  pub codes : ks′ ≡ writtenBy (partsCheck n bs qs cs ks) qs ks
 
 -- The record r becomes the table of its hours in the lent coefficients cs and codes ks.
 -- [refusals 14, 15, 16, 19] [statements 1]

@@ -12,7 +12,7 @@ use words::Unpacking;
 ghost use mathlib.Core.Path.{_≡_};
 ghost use Prim.Native.Nat.{_+_, _*_, _/_, _≤_};
 ghost use lib.ListN.{length};
-ghost use Rattle.om3.specs.Ranges.{Readings};
+ghost use Rattle.words.specs.Bounds.{Readings};
 ghost use Rattle.om3.specs.Table.{lent};
 ghost use Rattle.om3.specs.Refusals.{examineTable};
 ghost use Rattle.turning.specs.Turning.{checkOf, Examined};

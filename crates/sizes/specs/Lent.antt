@@ -1,4 +1,5 @@
--- That a table is lent whole. Cited by the contracts of what is done after checks 1 and 3. Assumes nothing.
+-- That a table is lent whole. Cited by the contracts of what is done after checks 1 and 3, and where demand 2 speaks of
+-- room lent. Assumes nothing.
 --
 --   TableLent n cs ks             checks 1 and 3 pass for a table of n hours in the buffers cs and ks
 --   Enough n cs ks size needed    and as much of a further buffer is lent as is needed of it
@@ -10,12 +11,13 @@ use lib.IntN.{ℤ}
 use lib.ListN.{length}
 use Rattle.om3.specs.Series.{badHours, P}
 
--- [refusals 1, 3, 15]
+-- n is a number of hours, and P coefficients and P/2 codes are there. [refusals 1, 3, 15]
 pub record TableLent (n : ℕ) (cs : List ℤ) (ks : List ℕ) : Type 0 where
   pub good : badHours n ≡ false
   pub coefficients : P n ≤ length cs
   pub codes : P n / 2 ≤ length ks
 
+-- The table, and room for what it becomes. [refusals 15]
 pub record Enough (n : ℕ) (cs : List ℤ) (ks : List ℕ) (size needed : ℕ) : Type 0 where
   pub table : TableLent n cs ks
   pub buffer : needed ≤ size

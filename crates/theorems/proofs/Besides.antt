@@ -1,6 +1,6 @@
 -- What is proved beside the demands: making after turning back, reading after writing and writing after reading, single
--- coefficients, what the boundary tells, the columns of a window, the day change, how the answers of parts make up the
--- whole, and what the printer prints. Assumes nothing.
+-- coefficients, what the boundary tells, the columns of a window, the day change, how the looks through parts make up
+-- the whole, and what the printer prints. Assumes nothing.
 use mathlib.Core.{Path._≡_, Bool.false, List.List, List.map, List.flatten, List.flatMap}
 use Prim.Native.Nat.{ℕ, _-_, _*_, _/_, _^_, _≤_, _<_}
 use lib.{IntN.ℤ, IntN.pos, ListN.length, ListN.getD, ListN.take}
@@ -95,12 +95,12 @@ printer = theorems.Printer.prints-pieces
 
 -- The hours of a text that is taken are a series; each column that is printed is answered, by the answer that a look
 -- through its hours gives, with the defined count.
-module _ (a b w : ℕ) (hours : List HourLine) (ok : inOrder (printingChecks a b w hours) ≡ passes) where
-  printed-series : Series (length hours) (map gramsOf hours)
-  printed-series = om3.PrintedColumns.text-series a b w hours ok
+module _ (a b w : ℕ) (lines : List HourLine) (ok : inOrder (printingChecks a b w lines) ≡ passes) where
+  printed-series : Series (length lines) (map gramsOf lines)
+  printed-series = om3.PrintedColumns.text-series a b w lines ok
 
   printed-columns : (k : ℕ) → k < w
-      → (let n = length hours in let s = map gramsOf hours in
+      → (let n = length lines in let s = map gramsOf lines in
       let t = tableOf (levels n) n s in let x = column a b w k in
       finished n t a b w k ≡ Finished.Answered (lookThrough n s (columnHours x)) (count (levels n) t x))
-  printed-columns = om3.PrintedColumns.columns-answered a b w hours ok
+  printed-columns = om3.PrintedColumns.columns-answered a b w lines ok

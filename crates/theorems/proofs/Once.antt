@@ -1,6 +1,6 @@
 -- The contract of each call allows one result. Assumes nothing.
 use mathlib.Core.Path.{_≡_, refl, sym, ap, _∙_}
-use Rattle.theorems.specs.Once.{OneAnswer, WalkedByHand, EachTold, EachCall}
+use Rattle.theorems.specs.Once.{OneAnswer, ProvedByHand, EachTold, EachCall}
 
 -- An equation allows one answer.
 by-equation : {A : Type 0} {r r′ x : A} → r ≡ x → r′ ≡ x → r ≡ r′
@@ -11,7 +11,7 @@ equation : {K : Type 0} {A R E : K → Type 0} (x : (κs : K) → A κs → R κ
     → OneAnswer (λ (κs : K) (a : A κs). Unit {0}) (λ (κs : K) (a : A κs) (r : R κs) (e : E κs). r ≡ x κs a)
 equation x = record { asks-nothing = λ κs a. tt; one = λ κs a r r′ e e′ p q. by-equation p q }
 
-by-hand : WalkedByHand
+by-hand : ProvedByHand
 by-hand =
     record {
       open-asks = λ w κs a. refl;

@@ -22,7 +22,7 @@ use Rattle.theorems.proofs as theorems
 each-call : EachCall
 each-call = theorems.Once.each-call
 
--- .. a list of checks, as Refusals, Record and Printed have one for each call, refuses by its first cause alone ..
+-- .. a list of checks, as each call has one beside its definition in om3, refuses by its first cause alone ..
 first-cause : (cs : List Check) (why : Refusal) → (inOrder cs ≡ refuses why) ↔ FirstCause cs why
 first-cause = om3.Examined.first-cause
 

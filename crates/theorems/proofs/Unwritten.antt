@@ -1,10 +1,8 @@
 -- Where a call is refused, each buffer lent to it is as it was, since what it leaves there is decided by the same
 -- checks as its answer. Assumes nothing.
 use mathlib.Core.Path.{_≡_, refl, ap, _∙_}
-use mathlib.Core.List.{List}
 use Prim.Native.Nat.{ℕ}
 use native.Mathlib.Omega.{arith}
-use lib.IntN.{ℤ}
 use lib.ListN.{length}
 use Rattle.words.specs.declared.Refusal.{Refusal}
 use Rattle.words.specs.declared.Taking.{Taking}
@@ -15,29 +13,46 @@ use Rattle.om3.specs.Checks.{Check, passes, refuses, inOrder, answerBy}
 use Rattle.om3.specs.Calls.{makingChecks, turningBackChecks}
 use Rattle.om3.specs.Record.{recordSize, hoursIn}
 use Rattle.om3.specs.RecordCalls.{writingChecks, unpackingChecks}
-use Rattle.making.specs.Making.{Made}
-use Rattle.turning.specs.Turning.{TurnedBack}
-use Rattle.writing.specs.Writing.{RecordWritten}
-use Rattle.reading.specs.Reading.{RecordRead}
 use Rattle.told.specs.declared.tables.Told.{Told}
 use Rattle.told.specs.declared.records.ToldBytes.{ToldBytes}
 use Rattle.told.specs.declared.records.ToldHours.{ToldHours}
 use Rattle.told.specs.Tables.{takingTold}
 use Rattle.told.specs.Records.{writingTold, unpackingTold}
-use Rattle.sagivelume.specs.Boundary.{MakeTold, TurnBackTold, WriteTold, ReadTold}
 use Rattle.theorems.specs.Unwritten.{NothingWritten}
 
--- A call that does not answer as one that is taken was refused by its checks.
-was-refused : {A : Type 0} (refused : Refusal → A) (taken : A) (c : Check) → ¬ (answerBy refused c taken ≡ taken)
-    → (why : Refusal) × (c ≡ refuses why)
-was-refused refused taken passes other = absurd (other refl)
-was-refused refused taken (refuses why) other = (why, refl)
+-- A call with these checks, which answers a refusal, or `taken` where they pass.
+module _ {A : Type 0} (refused : Refusal → A) (taken : A) (c : Check) where
+  -- If it does not answer as one that is taken, its checks refused it.
+  was-refused : ¬ (answerBy refused c taken ≡ taken) → (why : Refusal) × (c ≡ refuses why)
+  was-refused other = by c other
+    where
+      by : (c : Check) → ¬ (answerBy refused c taken ≡ taken) → (why : Refusal) × (c ≡ refuses why)
+      by passes other = absurd (other refl)
+      by (refuses why) other = (why, refl)
 
--- Of a refusal that is answered, and of a number other than 0 that is told.
+  -- So it is if what is told of its answer has a number that is not that of a call that is taken, 0.
+  told-refused : {T : Type 0} (told : A → T) (number : T → ℕ) → number (told taken) ≡ 0
+      → (r : T) → r ≡ told (answerBy refused c taken) → ¬ (number r ≡ 0) → (why : Refusal) × (c ≡ refuses why)
+  told-refused told number zero r e other =
+      was-refused (λ same. other (ap number e ∙ ap (λ (a : A). number (told a)) same ∙ zero))
+
+-- A refusal that is answered is not the answer of a call that is taken.
 taking-refused : (c : Check) (why : Refusal) → Taking.Refused why ≡ answerBy Taking.Refused c Taking.Taken
     → (r : Refusal) × (c ≡ refuses r)
 taking-refused c why e =
-    was-refused Taking.Refused Taking.Taken c (λ t. let z : _≡_ {A = ℕ} 0 1 = cc (e ∙ t) in omega arith)
+    was-refused Taking.Refused Taking.Taken c (λ same. let z : _≡_ {A = ℕ} 0 1 = cc (e ∙ same) in omega arith)
+
+writing-refused : (c : Check) (n : ℕ) (why : Refusal)
+    → Writing.Refused why ≡ answerBy Writing.Refused c (Writing.Bytes (recordSize n)) → (r : Refusal) × (c ≡ refuses r)
+writing-refused c n why e =
+    was-refused Writing.Refused (Writing.Bytes (recordSize n)) c
+    (λ same. let z : _≡_ {A = ℕ} 0 1 = cc (e ∙ same) in omega arith)
+
+unpacking-refused : (c : Check) (n : ℕ) (why : Refusal)
+    → Unpacking.Refused why ≡ answerBy Unpacking.Refused c (Unpacking.Hours n) → (r : Refusal) × (c ≡ refuses r)
+unpacking-refused c n why e =
+    was-refused Unpacking.Refused (Unpacking.Hours n) c
+    (λ same. let z : _≡_ {A = ℕ} 0 1 = cc (e ∙ same) in omega arith)
 
 pub nothing-written : NothingWritten
 nothing-written =
@@ -49,35 +64,29 @@ nothing-written =
           let c = taking-refused (inOrder (turningBackChecks n (lent cs ks) (length out))) why (m .answer) in
           rw (c .1) at (m .hours);
       write-record = λ n cs ks out out′ why m.
-          let c = was-refused Writing.Refused (Writing.Bytes (recordSize n))
-          (inOrder (writingChecks n (lent cs ks) (length out)))
-          (λ t. let z : _≡_ {A = ℕ} 0 1 = cc (m .answer ∙ t) in omega arith) in
+          let c = writing-refused (inOrder (writingChecks n (lent cs ks) (length out))) n why (m .answer) in
           rw (c .1) at (m .bytes);
       read-record = λ bs cs cs′ ks ks′ why m.
-          let c = was-refused Unpacking.Refused (Unpacking.Hours (hoursIn bs))
-          (inOrder (unpackingChecks bs (lent cs ks)))
-          (λ t. let z : _≡_ {A = ℕ} 0 1 = cc (m .answer ∙ t) in omega arith) in
+          let c = unpacking-refused (inOrder (unpackingChecks bs (lent cs ks))) (hoursIn bs) why (m .answer) in
           (rw (c .1) at (m .coefficients), rw (c .1) at (m .codes));
-      make-told = λ n s cs cs′ ks ks′ r h m.
-          let number = ap (λ (u : Told). u .number) (m .answer) in
-          let c = was-refused Taking.Refused Taking.Taken (inOrder (makingChecks n s (lent cs ks)))
-          (λ t. h (number ∙ ap (λ (a : Taking). takingTold a .number) t)) in
+      make-told = λ n s cs cs′ ks ks′ r other m.
+          let checks = inOrder (makingChecks n s (lent cs ks)) in
+          let c = told-refused Taking.Refused Taking.Taken checks takingTold
+          (λ (u : Told). u .number) refl r (m .answer) other in
           (rw (c .1) at (m .made .coefficients), rw (c .1) at (m .made .codes));
-      turn-back-told = λ n cs ks out out′ r h m.
-          let number = ap (λ (u : Told). u .number) (m .answer) in
-          let c = was-refused Taking.Refused Taking.Taken (inOrder (turningBackChecks n (lent cs ks) (length out)))
-          (λ t. h (number ∙ ap (λ (a : Taking). takingTold a .number) t)) in
+      turn-back-told = λ n cs ks out out′ r other m.
+          let checks = inOrder (turningBackChecks n (lent cs ks) (length out)) in
+          let c = told-refused Taking.Refused Taking.Taken checks takingTold
+          (λ (u : Told). u .number) refl r (m .answer) other in
           rw (c .1) at (m .turned .hours);
-      write-record-told = λ n cs ks out out′ r h m.
-          let number = ap (λ (u : ToldBytes). u .number) (m .answer) in
-          let c = was-refused Writing.Refused (Writing.Bytes (recordSize n))
-          (inOrder (writingChecks n (lent cs ks) (length out)))
-          (λ t. h (number ∙ ap (λ (a : Writing). writingTold a .number) t)) in
+      write-record-told = λ n cs ks out out′ r other m.
+          let checks = inOrder (writingChecks n (lent cs ks) (length out)) in
+          let c = told-refused Writing.Refused (Writing.Bytes (recordSize n)) checks writingTold
+          (λ (u : ToldBytes). u .number) refl r (m .answer) other in
           rw (c .1) at (m .written .bytes);
-      read-record-told = λ bs cs cs′ ks ks′ r h m.
-          let number = ap (λ (u : ToldHours). u .number) (m .answer) in
-          let c = was-refused Unpacking.Refused (Unpacking.Hours (hoursIn bs))
-          (inOrder (unpackingChecks bs (lent cs ks)))
-          (λ t. h (number ∙ ap (λ (a : Unpacking). unpackingTold a .number) t)) in
+      read-record-told = λ bs cs cs′ ks ks′ r other m.
+          let checks = inOrder (unpackingChecks bs (lent cs ks)) in
+          let c = told-refused Unpacking.Refused (Unpacking.Hours (hoursIn bs)) checks unpackingTold
+          (λ (u : ToldHours). u .number) refl r (m .answer) other in
           (rw (c .1) at (m .read .coefficients), rw (c .1) at (m .read .codes));
     }

@@ -1,14 +1,14 @@
 -- Demand 1 for the calls: each may be made with anything, and its contract leaves nothing open, so that two results
 -- that it allows are equal. What a call asks and what it promises are `Asked` and `Learnt` of that call, which the
 -- checker reads from the `requires` and the `ensures` of its source: these laws are about the contracts themselves.
--- Of two calls of the view, which are walked by hand, the checker has no such reading; WalkedByHand is about their
+-- Of two calls of the view, which are proved by hand, the checker has no such reading; ProvedByHand is about their
 -- clauses. That a call ends is what the checker demands of every function. Assumes nothing.
 --
 --   OneAnswer asked ensured         a call that asks nothing, and whose contract allows one answer
 --   OneBuffer left asked ensured    the same with a buffer lent to be written, of which `left` is what the call leaves
 --                                   there; TwoBuffers, with two
 --   OneResult same asked ensured    of which these are cases: `same` says what is the same of two results
---   WalkedByHand                    what opening a view and asking it ask and promise
+--   ProvedByHand                    what opening a view and asking it ask and promise
 --   EachTold, EachCall              each call of the boundary, and each call
 use mathlib.Core.Path.{_≡_}
 use mathlib.Core.List.{List}
@@ -95,7 +95,7 @@ abbrev asks : (w : World) → Clauses (w .𝓤) asking.ended
 asks w = asking.clauses (w .𝓤) (w .H) (w .𝓖 .A) (w .𝓜 .mem) (w .𝓡 .run)
 
 -- In every world they ask nothing and promise an equation.
-pub record WalkedByHand : Type 2 where
+pub record ProvedByHand : Type 2 where
   pub open-asks : (w : World) (κs : Lfts 1) (a : ArgsD opening.signature κs)
       → opens w κs a .requires tt ≡ connectives (w .𝓤) .⊤ₛ
   pub open-promises : (w : World) (κs : Lfts 1) (a : ArgsD opening.signature κs) (v : View) (e : _)
@@ -133,8 +133,8 @@ pub record EachCall : Type 2 where
   pub open-record : OneAnswer open-record.Asked open-record.Learnt
   pub ask : OneAnswer ask.Asked ask.Learnt
   pub ask-record : OneAnswer ask-record.Asked ask-record.Learnt
-  -- The view: opening it and asking it, which are walked by hand, and of which this is the contract.
-  pub by-hand : WalkedByHand
+  -- The view: opening it and asking it, which are proved by hand, and of which this is the contract.
+  pub by-hand : ProvedByHand
   pub open-view : (bytes : RefT (List ℕ)) (v v′ : View) → v ≡ viewOf bytes → v′ ≡ viewOf bytes → v ≡ v′
   pub ask-view : (v : View) (p : ℕ) (u u′ : Asking) → u ≡ askingView (now (v .bytes)) (v .places) p
       → u′ ≡ askingView (now (v .bytes)) (v .places) p → u ≡ u′

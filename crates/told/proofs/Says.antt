@@ -27,7 +27,7 @@ use Rattle.told.specs.Says.{rangesSay, valuesIn, finishedSays, changeSay
 -- No refusal has the number 0, so its values do not count.
 none-counts : (why : Refusal) (values : List ℤ) → said (numberOf why) (placeOf why) values ≡ refused why
 none-counts BadHours values = refl
-none-counts (BadReading t) values = refl
+none-counts (BadReading h) values = refl
 none-counts ShortBuffer values = refl
 none-counts (Unsound i) values = refl
 none-counts BadWindow values = refl

@@ -2,7 +2,7 @@
 -- Assumes nothing.
 --
 --   bytesTold w, hoursTold u,         the values of the answers, 0 on a refusal
---   openedHours o, openedPlaces o,
+--   openingHours o, openingPlaces o,
 --   coefficientTold a
 --   writingTold w, unpackingTold u,   these answers with their number, place and values
 --   openingTold o, askingTold a
@@ -27,13 +27,13 @@ abbrev pub hoursTold : Unpacking → ℕ
 hoursTold (Unpacking.Hours n) = n
 hoursTold (Unpacking.Refused why) = 0
 
-abbrev pub openedHours : Opening → ℕ
-openedHours (Opening.Record n p) = n
-openedHours (Opening.Refused why) = 0
+abbrev pub openingHours : Opening → ℕ
+openingHours (Opening.Record n p) = n
+openingHours (Opening.Refused why) = 0
 
-abbrev pub openedPlaces : Opening → ℕ
-openedPlaces (Opening.Record n p) = p
-openedPlaces (Opening.Refused why) = 0
+abbrev pub openingPlaces : Opening → ℕ
+openingPlaces (Opening.Record n p) = p
+openingPlaces (Opening.Refused why) = 0
 
 abbrev pub coefficientTold : Asking → ℤ
 coefficientTold (Asking.Coefficient z) = z
@@ -49,8 +49,8 @@ abbrev pub openingTold : Opening → ToldRecord
 openingTold o = record {
   number = saidOfOpening o .number;
   place = saidOfOpening o .place;
-  hours = openedHours o;
-  places = openedPlaces o;
+  hours = openingHours o;
+  places = openingPlaces o;
 }
 
 abbrev pub askingTold : Asking → ToldCoefficient

@@ -11,9 +11,9 @@ use mir.Syntax.{w32}
 use mir.Val.{toZ, ofZ}
 use Rattle.signed.proofs.Widths.{reads-back}
 use Rattle.words.specs.declared.Range.{Range}
+use Rattle.words.specs.Bounds.{Readings}
 use Rattle.om3.specs.Series.{levels, P}
 use Rattle.om3.specs.Nodes.{root}
-use Rattle.om3.specs.Ranges.{Readings}
 use Rattle.om3.specs.Table.{Table, lent}
 use Rattle.om3.specs.Down.{rootRange, reachedAt, reached}
 use Rattle.om3.specs.Checks.{inOrder}

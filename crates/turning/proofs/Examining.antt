@@ -9,9 +9,9 @@ use lib.IntN.{ℤ, pos}
 use lib.ListN.{getD}
 use Rattle.words.specs.declared.NodeId.{NodeId}
 use Rattle.words.specs.declared.Range.{Range}
+use Rattle.words.specs.Bounds.{Readings}
 use Rattle.om3.specs.Series.{hour}
 use Rattle.om3.specs.Nodes.{Node, number, left, right, start}
-use Rattle.om3.specs.Ranges.{Readings}
 use Rattle.om3.specs.Table.{Table, lent}
 use Rattle.om3.specs.Down.{leftHalf, rightHalf, firstOfPair, secondOfPair, reached}
 use Rattle.om3.specs.Checks.{Check, andThen, inOrder}

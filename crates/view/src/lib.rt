@@ -49,7 +49,7 @@ fn ask_once(bytes: &[u8], place: usize) -> Asking
 }
 
 // Opens a record and asks its view. Refusals of opening, then 13. The view opens the bytes once more: one made here, of
-// the places that are known by then, would be one more function to walk by hand.
+// the places that are known by then, would be one more function to prove by hand.
 pub fn ask_record(bytes: &[u8], place: usize) -> Asking
     ensures { λ r. ⌜ r ≡ asking (now (bytes .entry)) place ⌝ }
 {

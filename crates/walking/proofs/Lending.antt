@@ -9,7 +9,7 @@ use lib.IntN.{ℤ}
 use lib.ListN.{length}
 use borrow.Author.Tests.{ltb-false}
 use Rattle.words.specs.declared.Range.{Range}
-use Rattle.om3.specs.Ranges.{Readings}
+use Rattle.words.specs.Bounds.{Readings}
 use Rattle.node.proofs.Rooms.{left-room, right-room, places-room}
 use Rattle.walking.specs.Nodes.{Below, isPairOf, leftReached, rightReached}
 use Rattle.walking.specs.Seen.{bothInner}

@@ -10,7 +10,7 @@ use lib.ListN.{length}
 use borrow.Author.Tests.{ltb-true}
 use Rattle.words.specs.declared.Column.{Column}
 use Rattle.words.specs.declared.Range.{Range}
-use Rattle.om3.specs.Ranges.{Readings}
+use Rattle.words.specs.Bounds.{Readings}
 use Rattle.om3.proofs.Tests.{and-right}
 use Rattle.node.specs.declared.Halves.{Halves}
 use Rattle.walking.specs.Nodes.{Below, leftReached, rightReached, touchesOf, insideOf, openedOf}
@@ -19,7 +19,7 @@ use Rattle.walking.specs.Narrowing.{EndsAt, SplitsAt}
 use Rattle.walking.specs.declared.Reached.{Reached}
 use Rattle.walking.specs.declared.Visited.{Visited}
 use Rattle.walking.proofs.Lending.{left-below, right-below}
-use Rattle.walking.proofs.Visiting as walking
+use Rattle.walking.proofs.Visiting as visiting
 
 -- A node that is opened covers more hours than those where the visit stops.
 pub opened-hours : (x : Column) (stop : ℕ) (at : Reached) → 1 ≤ stop → openedOf x stop at ≡ true → 2 ≤ at .hours
@@ -48,7 +48,7 @@ module _ (n : ℕ) (cs : List ℤ) (ks : List ℕ) (x : Column) (stop c : ℕ) (
     lent = came .below
 
     pub unsound : SteppedDown n cs ks at Halves.Unsound → VisitedFrom n cs ks x stop c start (Visited.Unsound (at .id))
-    unsound step = came .rest _ (walking.node-unsound n cs ks x stop opened at o two lent step)
+    unsound step = came .rest _ (visiting.node-unsound n cs ks x stop opened at o two lent step)
 
     module _ (r q : Range) (step : SteppedDown n cs ks at (Halves.Sound r q)) where
       abbrev p : Readings r × Readings q
@@ -60,7 +60,7 @@ module _ (n : ℕ) (cs : List ℤ) (ks : List ℕ) (x : Column) (stop c : ℕ) (
             below = left-below cs ks at lent two r (p .0);
             room = omega (arith, came .room);
             within = omega (arith, came .within);
-            rest = λ z w. came .rest z (walking.only-first n cs ks x stop opened at o two lent r q step apart z w);
+            rest = λ z w. came .rest z (visiting.only-first n cs ks x stop opened at o two lent r q step apart z w);
           }
 
       pub goes-right : touchesOf x (leftReached at r) ≡ false → CameTo (rightReached at q) (opened + 1)
@@ -69,7 +69,7 @@ module _ (n : ℕ) (cs : List ℤ) (ks : List ℕ) (x : Column) (stop c : ℕ) (
             below = right-below cs ks at lent two q (p .1);
             room = omega (arith, came .room);
             within = omega (arith, came .within);
-            rest = λ z w. came .rest z (walking.only-second n cs ks x stop opened at o two lent r q step apart z w);
+            rest = λ z w. came .rest z (visiting.only-second n cs ks x stop opened at o two lent r q step apart z w);
           }
 
       pub splits : SplitsAt n cs ks x stop c start (leftReached at r) (rightReached at q) (opened + 1)
@@ -80,9 +80,9 @@ module _ (n : ℕ) (cs : List ℤ) (ks : List ℕ) (x : Column) (stop c : ℕ) (
             room = omega (arith, came .room);
             less-first = omega (arith, came .within);
             less-second = omega (arith, came .within);
-            left-unsound = λ i F. came .rest _ (walking.left-unsound n cs ks x stop opened at o two lent r q step i F);
+            left-unsound = λ i F. came .rest _ (visiting.left-unsound n cs ks x stop opened at o two lent r q step i F);
             right-unsound = λ a F i G.
-                came .rest _ (walking.right-unsound n cs ks x stop opened at o two lent r q step a F i G);
+                came .rest _ (visiting.right-unsound n cs ks x stop opened at o two lent r q step a F i G);
             both-seen = λ a F b G.
-                came .rest _ (walking.both-seen n cs ks x stop opened at o two lent r q step a F b G);
+                came .rest _ (visiting.both-seen n cs ks x stop opened at o two lent r q step a F b G);
           }

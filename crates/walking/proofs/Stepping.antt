@@ -9,9 +9,9 @@ use lib.ListN.{getD}
 use Rattle.words.specs.declared.NodeId.{NodeId}
 use Rattle.words.specs.declared.Timestamp.{Timestamp}
 use Rattle.words.specs.declared.Range.{Range}
+use Rattle.words.specs.Bounds.{Readings}
 use Rattle.om3.specs.Series.{hour}
 use Rattle.om3.specs.Nodes.{Node}
-use Rattle.om3.specs.Ranges.{Readings}
 use Rattle.om3.specs.Table.{Table, lent}
 use Rattle.om3.specs.Down.{firstOfPair, secondOfPair}
 use Rattle.om3.specs.Sound.{soundCode, gapFrom}
@@ -29,29 +29,29 @@ use Rattle.walking.specs.Nodes.{At}
 use Rattle.walking.specs.Visiting.{halvesAt, SteppedDown}
 use Rattle.walking.specs.declared.Reached.{Reached}
 
-module _ (n : ℕ) (cs : List ℤ) (ks : List ℕ) (i : NodeId) (t : Timestamp) (w : ℕ) (range : Range) where
+module _ (n : ℕ) (cs : List ℤ) (ks : List ℕ) (i : NodeId) (h : Timestamp) (w : ℕ) (range : Range) where
   abbrev T : Table
   T = lent cs ks
 
   abbrev here : Reached
-  here = record { id = i; from = t; hours = w; range = range }
+  here = record { id = i; from = h; hours = w; range = range }
 
   -- At a pair.
   module _ (two : 2 ≤ w) (four : w < 4) (p : Readings range) where
     abbrev c : ℕ
-    c = getD ks (t .0 / 2) 0
+    c = getD ks (h .0 / 2) 0
 
     abbrev F : Bool
-    F = gapFrom n (hour (t .0)) (firstOfPair range c)
+    F = gapFrom n (hour (h .0)) (firstOfPair range c)
 
     abbrev S : Bool
-    S = gapFrom n (hour (t .0 + 1)) (secondOfPair range c)
+    S = gapFrom n (hour (h .0 + 1)) (secondOfPair range c)
 
-    pair-down : (l : ℕ) (v : Node) → At l T v here → pairAt n ks (t .0) range ≡ halvesAt l n T v
+    pair-down : (l : ℕ) (v : Node) → At l T v here → pairAt n ks (h .0) range ≡ halvesAt l n T v
     pair-down l v at =
         let here = at .located in
         rw (
-          sound-pair n cs ks i (t .0) w range two four l v here (at .range),
+          sound-pair n cs ks i (h .0) w range two four l v here (at .range),
           reached-left l T v,
           reached-right l T v,
           pair-yes l v (at-pair here two four),
@@ -59,14 +59,14 @@ module _ (n : ℕ) (cs : List ℤ) (ks : List ℕ) (i : NodeId) (t : Timestamp) 
           ← at .range,
         )
 
-    pair-readings : (a b : Range) → pairAt n ks (t .0) range ≡ Halves.Sound a b → Readings a × Readings b
-    pair-readings a b h =
-        let s = stepped (soundCode range c && F && S) (firstOfPair range c) (secondOfPair range c) h in
+    pair-readings : (a b : Range) → pairAt n ks (h .0) range ≡ Halves.Sound a b → Readings a × Readings b
+    pair-readings a b e =
+        let s = stepped (soundCode range c && F && S) (firstOfPair range c) (secondOfPair range c) e in
         let fits = and-left (soundCode range c) F (and-left (soundCode range c && F) S (s .isSound)) in
         let halves = coded range c p fits .halves in
         (rw (s .first) (halves .readings-left), rw (s .second) (halves .readings-right))
 
-    pub pair-stepped : (r : Halves) → r ≡ pairAt n ks (t .0) range → SteppedDown n cs ks here r
+    pub pair-stepped : (r : Halves) → r ≡ pairAt n ks (h .0) range → SteppedDown n cs ks here r
     pair-stepped r e =
         record { halves = λ l v at. e ∙ pair-down l v at; readings = λ a b h. pair-readings a b (sym e ∙ h) }
 
@@ -82,7 +82,7 @@ module _ (n : ℕ) (cs : List ℤ) (ks : List ℕ) (i : NodeId) (t : Timestamp) 
     details-down l v at =
         let here = at .located in
         rw (
-          sound-node n cs ks i (t .0) w range wide l v here (at .range),
+          sound-node n cs ks i (h .0) w range wide l v here (at .range),
           reached-left l T v,
           reached-right l T v,
           pair-no l v (above-pairs here wide),

@@ -76,7 +76,7 @@ module _ {l : ℕ} {t : Table} {v : Node} {at : Reached} (here : At l t v at) wh
   unfolding width
   deep-is d stop deep e =
       let covers = here .located .covers in
-      let low = here .located .deep in
+      let low = here .located .inTree .deep in
       ⊎-elim
       (λ h.
       let less : l - d < l - v .level = omega arith in

@@ -55,11 +55,11 @@ module _ (n : ℕ) (cs : List ℤ) (ks : List ℕ) (x : Column) (stop : ℕ) whe
       not-opened = sym (opened-is here asked) ∙ closed
 
       none-opened : keep (opened l T x d) (nodesBelow (suc (l - v .level)) v) ≡ []
-      none-opened = let e = here .located .deep in unopened-kept l T x d _ v (omega arith) not-opened
+      none-opened = let e = here .located .inTree .deep in unopened-kept l T x d _ v (omega arith) not-opened
 
       unopened-seen : unopenedOf x c at ≡ seenOf l T x d c v
       unopened-seen =
-          let e = here .located .deep in
+          let e = here .located .inTree .deep in
           let h : v .level + (l - v .level) ≤ l = omega arith in
           let touching = touches-is here x (asked .some) in
           let A = hasReading l T v && shares l x v in

@@ -14,8 +14,8 @@ use Rattle.words.specs.declared.NodeId.{NodeId}
 use Rattle.words.specs.declared.Range.{Range}
 use Rattle.words.specs.declared.Range.the-variants.{Empty, Held}
 use Rattle.words.specs.declared.Reading.{Reading}
+use Rattle.words.specs.Bounds.{Readings}
 use Rattle.om3.specs.Nodes.{Node, number, left, right}
-use Rattle.om3.specs.Ranges.{Readings}
 use Rattle.om3.specs.Table.{Table, lent}
 use Rattle.om3.specs.Down.{reached}
 use Rattle.om3.specs.Checks.{inOrder}
@@ -80,7 +80,7 @@ module _ (n : ℕ) (cs : List ℤ) (ks : List ℕ) (w : Towards) where
     single : (l : ℕ) (v : Node) → At l T v at → v .level ≡ l
     single l v here =
         let covers = here .located .covers in
-        let deep = here .located .deep in
+        let deep = here .located .inTree .deep in
         let none : Column = record { from = at .from; upto = at .from } in
         ⊎-elim (λ h. absurd (omega (arith, width-half l v h, width-some l none (left v))))
         (λ h. omega arith)

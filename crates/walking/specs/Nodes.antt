@@ -17,9 +17,10 @@ use lib.IntN.{ℤ}
 use lib.ListN.{length}
 use Rattle.words.specs.declared.Column.{Column}
 use Rattle.words.specs.declared.Range.{Range}
+use Rattle.words.specs.Bounds.{Readings}
 use Rattle.om3.specs.Series.{hour}
 use Rattle.om3.specs.Nodes.{Node, number, width, firstHour}
-use Rattle.om3.specs.Ranges.{isEmpty, Readings}
+use Rattle.om3.specs.Ranges.{isEmpty}
 use Rattle.om3.specs.Table.{Table}
 use Rattle.om3.specs.Down.{reached}
 use Rattle.node.specs.Located.{Located}

@@ -1,13 +1,13 @@
 -- What a step down and the visit over opened nodes promise. Cited by the contracts of this crate and of the columns.
 -- Assumes nothing.
 --
---   halvesAt l n t v         the halves of node v if it is sound; SteppedDown, what a step from there answers
---   Steps                    what a step needs of a node, whatever its hours; SteppedFrom, its contract
---   visitCheck r              what a visit says, as a check
---   StopsAt l d x stop       the visit is for depth d, whose nodes cover `stop` hours, and a column x that has an hour
---   Visits                    what a visit says of node v and the nodes below it
---   InnerBelow cs ks i       the first and the last node of an inner range are lent, with all below them
---   VisitedFrom               the contract of the visit below a node; TableVisited, of that from the root values
+--   halvesAt l n t v     the halves of node v if it is sound; SteppedDown, what a step from there answers
+--   Steps                what a step needs of a node, whatever its hours; SteppedFrom, its contract
+--   visitCheck r         what a visit says, as a check
+--   StopsAt l d x stop   the visit is for depth d, whose nodes cover `stop` hours, and a column x that has an hour
+--   Visits               what a visit says of node v and the nodes below it
+--   InnerBelow cs ks i   the first and the last node of an inner range are lent, with all below them
+--   VisitedFrom          the contract of the visit below a node; TableVisited, of that from the root values
 use mathlib.Core.Path.{_≡_}
 use mathlib.Core.Bool.{Bool, true, false, cond}
 use mathlib.Core.List.{List}
@@ -19,10 +19,10 @@ use Rattle.words.specs.declared.NodeId.{NodeId}
 use Rattle.words.specs.declared.Timestamp.{Timestamp}
 use Rattle.words.specs.declared.Range.{Range}
 use Rattle.words.specs.declared.Refusal.the-variants as refusal
+use Rattle.words.specs.Bounds.{Readings}
 use Rattle.om3.specs.Lists.{keep}
 use Rattle.om3.specs.Series.{levels, P}
 use Rattle.om3.specs.Nodes.{Node, left, right}
-use Rattle.om3.specs.Ranges.{Readings}
 use Rattle.om3.specs.Table.{Table, lent}
 use Rattle.om3.specs.Down.{reached}
 use Rattle.om3.specs.Checks.{Check, passes, refuses}

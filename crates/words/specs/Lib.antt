@@ -1,3 +1,4 @@
--- The constants of document 01, and what it says of each case of the types of this crate.
+-- The constants of document 01, what it says of each case of the types of this crate, and how far ranges go.
 pub mod Constants
 pub mod Said
+pub mod Bounds

@@ -5,7 +5,7 @@
 --   lowOf r, highOf r           the low and the high of a range, 2,000,003 where it is empty
 --   Said                        an answer in document 01's numbers; `saidOf..` gives it for each type of answer
 --   refused why, taken zs       a refusal as `Said`; a call that is taken, with its values
---   valuesOf a                  the values of a finished column without its count; none where there is no reading
+--   valuesOf answer             the values of a finished column without its count; none where there is no reading
 use mathlib.Core.List.{List, [], _∷_, _++_}
 use Prim.Native.Nat.{ℕ}
 use lib.IntN.{ℤ, pos}

@@ -1,4 +1,4 @@
--- `finished_over` walks the table, and walks from the first and the last inner node if there are some. Assumes
+-- `finished_over` visits the table, and walks from the first and the last inner node if there are some. Assumes
 -- nothing.
 use mathlib.Core.Path.{refl}
 use native.Mathlib.Omega.{arith}
@@ -10,7 +10,7 @@ use Rattle.columns.proofs.Finishing as laws
 use Rattle.columns.proofs.finished_over.Statement.{statement}
 use Rattle.columns.proofs.finished_over.Tie as tie
 
--- The column has an hour, and the walk is through.
+-- The column has an hour, and the visit is through.
 abbrev hour-at : tie.After-seen → tie.Else1
 hour-at c = c .before .before .before
 

@@ -1,4 +1,4 @@
--- `stopped_over` walks the table and counts what was opened. Assumes nothing.
+-- `stopped_over` visits the table and counts what was opened. Assumes nothing.
 use mathlib.Core.Path.{refl}
 use native.Mathlib.Omega.{arith}
 use borrow.Author.Needs.{needs}
@@ -9,7 +9,7 @@ use Rattle.columns.proofs.Stopping as laws
 use Rattle.columns.proofs.stopped_over.Statement.{statement}
 use Rattle.columns.proofs.stopped_over.Tie as tie
 
--- The column has an hour, and the walk is through.
+-- The column has an hour, and the visit is through.
 abbrev hour-at : tie.After-seen → tie.Else1
 hour-at c = c .before .before .before
 

@@ -7,7 +7,7 @@ use lib.ListN.{length}
 use borrow.Fn.Kinds.{In}
 use borrow.Fn.PlainCycle.{Measures, is, falls, and}
 use borrow.Author.Needs.{needs}
-use Rattle.om3.specs.Ranges.{Readings}
+use Rattle.words.specs.Bounds.{Readings}
 use Rattle.node.proofs.Rooms.{places-room, left-room, right-room}
 use Rattle.node.specs.declared.Halves.{Halves}
 use Rattle.turning.proofs.Examining as laws
