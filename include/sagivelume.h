@@ -10,11 +10,11 @@
  * node i, and code k is that of hours 2k and 2k + 1. RECORD.md says what details and codes mean.
  *
  * Every call ends with an answer, whatever the numbers and whatever the buffers hold. A buffer passes as a pointer and
- * then its length in elements; a longer one than needed is taken, and what lies beyond is neither read nor written.
- * Only the bytes of a record to be read or opened must be the record and no more. The caller sees to what C cannot
- * check: that the pointer is that of so many live elements, aligned and not null even if the length is 0, and that a
- * buffer to be written overlaps no other of the call. No call keeps a pointer, allocates, or touches anything else, so
- * that calls on different buffers may run at once.
+ * then its length in elements; a longer one than needed is taken, and what lies beyond changes no answer and stays as
+ * it was. Only the bytes of a record to be read or opened must be the record and no more. The caller sees to what C
+ * cannot check: that the pointer is that of so many live elements, aligned and not null even if the length is 0, and
+ * that a buffer to be written overlaps no other of the call. No call keeps a pointer, allocates, or touches anything
+ * else, so that calls on different buffers may run at once.
  *
  * Of every call but level and join, which refuse nothing, the answer begins with a refusal's number and its place, both
  * 0 where the call is taken. A refused call writes nothing, and the other fields of its answer are 0. Where a call has
@@ -155,8 +155,8 @@ struct sagivelume_told sagivelume_make(
     int32_t *coefficients, size_t coefficients_length,
     uint8_t *codes, size_t codes_length);
 
-/* Turns a table back into the hours it was made from. Reads P coefficients and P/2 codes, writes n hours. Refusals 1,
- * 3, 4. */
+/* Turns a table back into the hours of the series that has it. Reads P coefficients and P/2 codes, writes n hours.
+ * Refusals 1, 3, 4. */
 struct sagivelume_told sagivelume_turn_back(
     size_t n,
     const int32_t *coefficients, size_t coefficients_length,

@@ -40,11 +40,11 @@ struct Given {
 
 // The column whose n begins at `at`.
 fn column_at(text: &[u8], at: usize) -> Asked {
-    let hours = lines::number_at(text, at);
-    let first = lines::number_at(text, hours.next);
-    let after = lines::number_at(text, first.next);
-    let columns = lines::number_at(text, after.next);
-    let number = lines::number_at(text, columns.next);
+    let hours = vector_lines::number_at(text, at);
+    let first = vector_lines::number_at(text, hours.next);
+    let after = vector_lines::number_at(text, first.next);
+    let columns = vector_lines::number_at(text, after.next);
+    let number = vector_lines::number_at(text, columns.next);
     Asked {
         n: hours.size as usize,
         a: first.size as usize,
@@ -57,44 +57,44 @@ fn column_at(text: &[u8], at: usize) -> Asked {
 
 // The answer that begins at `at`.
 fn answer_at(text: &[u8], at: usize) -> Given {
-    let found = lines::number_at(text, at);
-    let first_hour = lines::number_at(text, found.next);
-    let last_hour = lines::number_at(text, first_hour.next);
-    let first = lines::number_at(text, last_hour.next);
-    let last = lines::number_at(text, first.next);
-    let low = lines::number_at(text, last.next);
-    let high = lines::number_at(text, low.next);
+    let found = vector_lines::number_at(text, at);
+    let first_hour = vector_lines::number_at(text, found.next);
+    let last_hour = vector_lines::number_at(text, first_hour.next);
+    let first = vector_lines::number_at(text, last_hour.next);
+    let last = vector_lines::number_at(text, first.next);
+    let low = vector_lines::number_at(text, last.next);
+    let high = vector_lines::number_at(text, low.next);
     let next = high.next;
     let answer = ToldAnswer {
         found: found.size as usize,
         first_hour: first_hour.size as usize,
         last_hour: last_hour.size as usize,
-        first: lines::grams_of(first),
-        last: lines::grams_of(last),
-        low: lines::grams_of(low),
-        high: lines::grams_of(high),
+        first: vector_lines::grams_of(first),
+        last: vector_lines::grams_of(last),
+        low: vector_lines::grams_of(low),
+        high: vector_lines::grams_of(high),
     };
     Given { answer, next }
 }
 
 // Writes an answer.
 fn show_answer(told: ToldAnswer) {
-    lines::print_head(told.found, told.first_hour);
-    lines::print_more(told.last_hour);
-    lines::print_more_grams(told.first);
-    lines::print_more_grams(told.last);
-    lines::print_more_grams(told.low);
-    lines::print_more_grams(told.high);
-    lines::print_end();
+    vector_lines::print_head(told.found, told.first_hour);
+    vector_lines::print_more(told.last_hour);
+    vector_lines::print_more_grams(told.first);
+    vector_lines::print_more_grams(told.last);
+    vector_lines::print_more_grams(told.low);
+    vector_lines::print_more_grams(told.high);
+    vector_lines::print_end();
 }
 
 // Asks for the edges of a column and writes the answer.
 fn show_edges(asked: Asked) {
     let told = sagivelume::sagivelume_edges(asked.n, asked.a, asked.b, asked.w, asked.column);
-    lines::print_head(told.number, told.place);
-    lines::print_more(told.from);
-    lines::print_more(told.upto);
-    lines::print_end();
+    vector_lines::print_head(told.number, told.place);
+    vector_lines::print_more(told.from);
+    vector_lines::print_more(told.upto);
+    vector_lines::print_end();
 }
 
 // Stops a column at a depth and writes the answer.
@@ -109,13 +109,13 @@ fn show_stopped(coefficients: &[i32], codes: &[u8], asked: Asked, depth: usize) 
         asked.column,
         depth,
     );
-    lines::print_head(told.number, told.place);
-    lines::print_more_grams(told.outer_low);
-    lines::print_more_grams(told.outer_high);
-    lines::print_more_grams(told.inner_low);
-    lines::print_more_grams(told.inner_high);
-    lines::print_more(told.count);
-    lines::print_end();
+    vector_lines::print_head(told.number, told.place);
+    vector_lines::print_more_grams(told.outer_low);
+    vector_lines::print_more_grams(told.outer_high);
+    vector_lines::print_more_grams(told.inner_low);
+    vector_lines::print_more_grams(told.inner_high);
+    vector_lines::print_more(told.count);
+    vector_lines::print_end();
 }
 
 // Finishes a column and writes the answer.
@@ -129,9 +129,9 @@ fn show_finished(coefficients: &[i32], codes: &[u8], asked: Asked) {
         asked.w,
         asked.column,
     );
-    lines::print_head(told.number, told.place);
-    lines::print_more(told.count);
-    lines::print_end();
+    vector_lines::print_head(told.number, told.place);
+    vector_lines::print_more(told.count);
+    vector_lines::print_end();
     show_answer(ToldAnswer {
         found: told.found,
         first_hour: told.first_hour,
@@ -146,10 +146,10 @@ fn show_finished(coefficients: &[i32], codes: &[u8], asked: Asked) {
 // Asks for the change of a day and writes the answer.
 fn show_day_change(n: usize, coefficients: &[i32], codes: &[u8], day: usize) {
     let told = sagivelume::sagivelume_day_change(n, coefficients, codes, day);
-    lines::print_head(told.number, told.place);
-    lines::print_more(told.found);
-    lines::print_more_grams(told.grams);
-    lines::print_end();
+    vector_lines::print_head(told.number, told.place);
+    vector_lines::print_more(told.found);
+    vector_lines::print_more_grams(told.grams);
+    vector_lines::print_end();
 }
 
 // A call for a column's edges, whose n begins at `at`. Tells where the next call begins.
@@ -163,13 +163,13 @@ fn answer_edges(text: &[u8], at: usize) -> usize {
 // A call of stopping a column, whose n begins at `at`. Tells where the next call begins.
 fn answer_stopped(text: &[u8], at: usize) -> usize {
     let asked = column_at(text, at);
-    let deep = lines::number_at(text, asked.next);
+    let deep = vector_lines::number_at(text, asked.next);
     let depth = deep.size as usize;
-    let mut coefficients = lines::no_grams();
-    let first = lines::lend_grams(text, deep.next, &mut coefficients);
+    let mut coefficients = vector_lines::no_grams();
+    let first = vector_lines::lend_grams(text, deep.next, &mut coefficients);
     let c = first.length;
-    let mut codes = lines::no_codes();
-    let second = lines::lend_bytes(text, first.next, &mut codes);
+    let mut codes = vector_lines::no_codes();
+    let second = vector_lines::lend_bytes(text, first.next, &mut codes);
     let k = second.length;
     show_stopped(&coefficients[..c], &codes[..k], asked, depth);
     second.next
@@ -178,11 +178,11 @@ fn answer_stopped(text: &[u8], at: usize) -> usize {
 // A call of finishing a column, whose n begins at `at`. Tells where the next call begins.
 fn answer_finished(text: &[u8], at: usize) -> usize {
     let asked = column_at(text, at);
-    let mut coefficients = lines::no_grams();
-    let first = lines::lend_grams(text, asked.next, &mut coefficients);
+    let mut coefficients = vector_lines::no_grams();
+    let first = vector_lines::lend_grams(text, asked.next, &mut coefficients);
     let c = first.length;
-    let mut codes = lines::no_codes();
-    let second = lines::lend_bytes(text, first.next, &mut codes);
+    let mut codes = vector_lines::no_codes();
+    let second = vector_lines::lend_bytes(text, first.next, &mut codes);
     let k = second.length;
     show_finished(&coefficients[..c], &codes[..k], asked);
     second.next
@@ -201,15 +201,15 @@ fn answer_join(text: &[u8], at: usize) -> usize {
 
 // A call for the change of a day, whose n begins at `at`. Tells where the next call begins.
 fn answer_day_change(text: &[u8], at: usize) -> usize {
-    let hours = lines::number_at(text, at);
-    let asked = lines::number_at(text, hours.next);
+    let hours = vector_lines::number_at(text, at);
+    let asked = vector_lines::number_at(text, hours.next);
     let n = hours.size as usize;
     let day = asked.size as usize;
-    let mut coefficients = lines::no_grams();
-    let first = lines::lend_grams(text, asked.next, &mut coefficients);
+    let mut coefficients = vector_lines::no_grams();
+    let first = vector_lines::lend_grams(text, asked.next, &mut coefficients);
     let c = first.length;
-    let mut codes = lines::no_codes();
-    let second = lines::lend_bytes(text, first.next, &mut codes);
+    let mut codes = vector_lines::no_codes();
+    let second = vector_lines::lend_bytes(text, first.next, &mut codes);
     let k = second.length;
     show_day_change(n, &coefficients[..c], &codes[..k], day);
     second.next
@@ -218,7 +218,7 @@ fn answer_day_change(text: &[u8], at: usize) -> usize {
 // Answers the call that begins at `at`, and tells where the next one begins. A number that begins no call is passed
 // over.
 fn answer(text: &[u8], at: usize) -> usize {
-    let call = lines::number_at(text, at);
+    let call = vector_lines::number_at(text, at);
     let what = call.size;
     if what == 1 {
         return answer_edges(text, call.next);
@@ -251,7 +251,7 @@ fn answer_all(text: &[u8]) {
 }
 
 fn main() {
-    let mut text = lines::no_text();
+    let mut text = vector_lines::no_text();
     let n = io::read_full(0, &mut text);
     answer_all(&text[..n]);
 }

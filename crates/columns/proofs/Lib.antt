@@ -4,5 +4,4 @@ pub mod Depths
 pub mod Stopping
 pub mod Finishing
 pub mod Founding
-pub mod Daily
 pub mod Calls

@@ -1,8 +1,5 @@
 -- What the inner functions of the columns promise; the calls themselves cite om3's definitions. Assumes nothing.
 --
---   Edged a b w k          the numbers of an edge are small enough to compute with
---   lentCheck n t          checks 1 and 3 of a table, as one
---   windowCheck            checks 5 and 6, as one
 --   innerRange i           the range over the nodes of an inner range
 --   StoppedOver            the contract of a column stopped at nodes of so many hours, its buffers lent
 --   StoppedAt              the contract of check 7 and of the column stopped at that depth, its buffers lent
@@ -16,7 +13,6 @@ use mathlib.Core.Path.{_≡_}
 use mathlib.Core.List.{List, [], _∷_}
 use Prim.Native.Nat.{ℕ, _+_, _-_, _^_, _≤_}
 use lib.IntN.{ℤ}
-use Rattle.words.specs.Constants.{largestHours, mostColumns}
 use Rattle.words.specs.Said.{lowOf, highOf}
 use Rattle.words.specs.declared.Column.{Column}
 use Rattle.words.specs.declared.Range.{Range}
@@ -29,29 +25,13 @@ use Rattle.om3.specs.Nodes.{Node}
 use Rattle.om3.specs.Table.{Table, lent}
 use Rattle.om3.specs.Checks.{Check, andThen, inOrder, answerBy}
 use Rattle.om3.specs.Sound.{examineNodes}
-use Rattle.om3.specs.Refusals.{checkHours, tableShort, checkRoom, checkWindow, checkColumn, checkDepth}
+use Rattle.om3.specs.Refusals.{checkDepth}
 use Rattle.om3.specs.Stopped.{openedNodes, countAt, outer, inner, examineColumn}
 use Rattle.om3.specs.Finished.{nodesOf, endOf, firstWalk, lastWalk, readingAt, answer, count, finishedNodes}
 use Rattle.walking.specs.Nodes.{At}
 use Rattle.walking.specs.Walking.{Small}
 use Rattle.walking.specs.declared.Inner.{Inner}
 use Rattle.walking.specs.declared.Reached.{Reached}
-
--- A window [a, b) of at most 16,384 hours in w columns, 1 ≤ w ≤ 4,096, and k at most w.
-pub record Edged (a b w k : ℕ) : Type 0 where
-  pub ordered : a ≤ b
-  pub hours : b ≤ largestHours
-  pub some : 1 ≤ w
-  pub most : w ≤ mostColumns
-  pub among : k ≤ w
-
--- Checks 1 and 3, of the table, come first. [refusals 17]
-abbrev pub lentCheck : ℕ → Table → Check
-lentCheck n t = inOrder (checkHours n ∷ checkRoom (tableShort n t) ∷ [])
-
--- Checks 5 and 6, of the window and of its columns, come next. [refusals 17]
-abbrev pub windowCheck : (n a b w k : ℕ) → Check
-windowCheck n a b w k = inOrder (checkWindow n a b ∷ checkColumn w k ∷ [])
 
 -- No nodes: the empty range. [columns 11]
 abbrev pub innerRange : Inner → Range

@@ -1,8 +1,4 @@
-// What the tablet draws: the edges of a column, a column stopped at a depth and a finished one, two answers joined, and
-// the change of a day.
-mod days;
-mod window;
-
+// What the tablet draws: a column of a window, stopped at a depth or finished.
 use walking::Inner;
 use walking::Reached;
 use walking::Towards;
@@ -10,7 +6,6 @@ use walking::Visited;
 use walking::Walked;
 use words::Answer;
 use words::Column;
-use words::DayChange;
 use words::Edges;
 use words::Finished;
 use words::Range;
@@ -22,45 +17,16 @@ use words::Timestamp;
 ghost use mathlib.Core.Path.{_≡_};
 ghost use Prim.Native.Nat.{_+_, _*_, _≤_};
 ghost use Rattle.words.specs.Constants.{largestHours};
-ghost use Rattle.om3.specs.Table.{lent as table};
-ghost use Rattle.om3.specs.Checks.{answerBy};
-ghost use Rattle.om3.specs.Columns.{edges as edgesOf};
+ghost use Rattle.om3.specs.Table.{lent};
 ghost use Rattle.om3.specs.Stopped.{stopped as stoppedOf};
 ghost use Rattle.om3.specs.Finished.{finished as finishedOf};
-ghost use Rattle.om3.specs.Joined.{joined};
-ghost use Rattle.om3.specs.Days.{dayChange};
 ghost use Rattle.sizes.specs.Lent.{TableLent};
 ghost use Rattle.walking.specs.Nodes.{Below};
-ghost use Rattle.columns.specs.Drawing.{lentCheck, innerRange};
+ghost use Rattle.columns.specs.Drawing.{innerRange};
 ghost use Rattle.columns.specs.Drawing.{StoppedOver, StoppedAt, FoundFrom, FinishedOver};
 
 // The count of a column without an hour.
 const NO_NODES: usize = 0;
-
-// The hours of column k of the window [a, b) in w columns. Refusals in the order 1, 5, 6.
-pub fn edges(n: usize, a: Timestamp, b: Timestamp, w: usize, k: usize) -> Edges
-    ensures { λ r. ⌜ r ≡ edgesOf n (a .0) (b .0) w k ⌝ }
-{
-    if sizes::bad_hours(n) {
-        return Edges::Refused(Refusal::BadHours);
-    }
-    window::column_of(n, a, b, w, k)
-}
-
-// Checks 1 and 3 of a table.
-fn check_lent(n: usize, coefficients: &[i32], codes: &[u8]) -> Taking
-    ensures { λ r. ⌜ r ≡ answerBy Taking.Refused
-        (lentCheck n (table (now (coefficients .entry)) (now (codes .entry)))) Taking.Taken ⌝ }
-{
-    if sizes::bad_hours(n) {
-        return Taking::Refused(Refusal::BadHours);
-    }
-    let p = sizes::places(n);
-    if sizes::table_short(p, coefficients.len(), codes.len()) {
-        return Taking::Refused(Refusal::ShortBuffer);
-    }
-    Taking::Taken
-}
 
 // The range of the inner nodes that were met.
 fn inner_range(inner: Inner) -> Range
@@ -86,7 +52,7 @@ fn count_of(opened: usize) -> usize
 
 // A column of a table, stopped at nodes that cover `stop` hours, at least 1. Needs the buffers lent. A column without
 // an hour is answered with the table not examined.
-fn stopped_over(n: usize, coefficients: &[i32], codes: &[u8], x: Column, stop: usize) -> Stopped
+pub fn stopped_over(n: usize, coefficients: &[i32], codes: &[u8], x: Column, stop: usize) -> Stopped
     requires { ⌜ TableLent n (now coefficients) (now codes) ⌝ }
     requires { ⌜ 1 ≤ stop ⌝ }
     ensures { λ r. ⌜ StoppedOver n (now (coefficients .entry)) (now (codes .entry)) x stop r ⌝ }
@@ -142,12 +108,12 @@ pub fn stopped(
     k: usize,
     d: usize,
 ) -> Stopped
-    ensures { λ r. ⌜ r ≡ stoppedOf n (table (now (coefficients .entry)) (now (codes .entry))) (a .0) (b .0) w k d ⌝ }
+    ensures { λ r. ⌜ r ≡ stoppedOf n (lent (now (coefficients .entry)) (now (codes .entry))) (a .0) (b .0) w k d ⌝ }
 {
-    if let Taking::Refused(why) = check_lent(n, coefficients, codes) {
+    if let Taking::Refused(why) = sizes::check_lent(n, coefficients, codes) {
         return Stopped::Refused(why);
     }
-    match window::column_of(n, a, b, w, k) {
+    match windows::column_of(n, a, b, w, k) {
         Edges::Refused(why) => Stopped::Refused(why),
         Edges::Hours(x) => stopped_at(n, coefficients, codes, x, d),
     }
@@ -182,8 +148,8 @@ fn found(
                         answer: Answer::Found(Summary {
                             first: reading,
                             last: latest,
-                            low: node::low_of(range),
-                            high: node::high_of(range),
+                            low: words::low_of(range),
+                            high: words::high_of(range),
                         }),
                         count: walked,
                     }
@@ -195,7 +161,7 @@ fn found(
 
 // A finished column of a table. Needs the buffers lent. A column without an hour is answered with the table not
 // examined.
-fn finished_over(n: usize, coefficients: &[i32], codes: &[u8], x: Column) -> Finished
+pub fn finished_over(n: usize, coefficients: &[i32], codes: &[u8], x: Column) -> Finished
     requires { ⌜ TableLent n (now coefficients) (now codes) ⌝ }
     ensures { λ r. ⌜ FinishedOver n (now (coefficients .entry)) (now (codes .entry)) x r ⌝ }
 {
@@ -239,56 +205,13 @@ pub fn finished(
     w: usize,
     k: usize,
 ) -> Finished
-    ensures { λ r. ⌜ r ≡ finishedOf n (table (now (coefficients .entry)) (now (codes .entry))) (a .0) (b .0) w k ⌝ }
+    ensures { λ r. ⌜ r ≡ finishedOf n (lent (now (coefficients .entry)) (now (codes .entry))) (a .0) (b .0) w k ⌝ }
 {
-    if let Taking::Refused(why) = check_lent(n, coefficients, codes) {
+    if let Taking::Refused(why) = sizes::check_lent(n, coefficients, codes) {
         return Finished::Refused(why);
     }
-    match window::column_of(n, a, b, w, k) {
+    match windows::column_of(n, a, b, w, k) {
         Edges::Refused(why) => Finished::Refused(why),
         Edges::Hours(x) => finished_over(n, coefficients, codes, x),
-    }
-}
-
-// The answer of the hours on the left and the answer of those on the right, together. [forms 10]
-pub fn join(left: Answer, right: Answer) -> Answer
-    ensures { λ r. ⌜ r ≡ joined left right ⌝ }
-{
-    match left {
-        Answer::NoReading => right,
-        Answer::Found(a) => match right {
-            Answer::NoReading => left,
-            Answer::Found(b) => {
-                let first = a.first;
-                let last = b.last;
-                Answer::Found(Summary {
-                    first,
-                    last,
-                    low: node::lesser(a.low, b.low),
-                    high: node::greater(a.high, b.high),
-                })
-            }
-        },
-    }
-}
-
-// Day d's last reading minus its first. Refusals in the order 1, 3, 5, 4.
-pub fn day_change(n: usize, coefficients: &[i32], codes: &[u8], d: usize) -> DayChange
-    ensures { λ r. ⌜ r ≡ dayChange n (table (now (coefficients .entry)) (now (codes .entry))) d ⌝ }
-{
-    if let Taking::Refused(why) = check_lent(n, coefficients, codes) {
-        return DayChange::Refused(why);
-    }
-    // A day from 16,384 on has no hour; of any before it, 24·d can be counted.
-    if words::LARGEST_HOURS <= d {
-        return DayChange::Refused(Refusal::BadWindow);
-    }
-    if n <= words::DAY_HOURS * d {
-        return DayChange::Refused(Refusal::BadWindow);
-    }
-    let x = days::hours_of(n, d);
-    match finished_over(n, coefficients, codes, x) {
-        Finished::Refused(why) => DayChange::Refused(why),
-        Finished::Answered { answer, count: _ } => days::change_of(answer),
     }
 }

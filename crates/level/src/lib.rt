@@ -5,8 +5,8 @@ ghost use lib.ListN.{length};
 ghost use Rattle.om3.specs.Level.{levelStretch, placesOf};
 
 // The places of level j's details in a table of n hours lent as so many coefficients, or no place.
-pub fn stretch(n: usize, j: usize, lent: usize) -> Stretch
-    ensures { λ r. ⌜ r ≡ levelStretch n j lent ⌝ }
+pub fn stretch(n: usize, j: usize, size: usize) -> Stretch
+    ensures { λ r. ⌜ r ≡ levelStretch n j size ⌝ }
 {
     let none = Stretch {
         start: 0,
@@ -16,7 +16,7 @@ pub fn stretch(n: usize, j: usize, lent: usize) -> Stretch
         return none;
     }
     let p = sizes::places(n);
-    if lent < p {
+    if size < p {
         return none;
     }
     if words::LARGEST_LEVEL <= j {

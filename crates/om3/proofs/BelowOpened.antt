@@ -1,5 +1,6 @@
--- The nodes that are opened, and those that the outer and the inner range are over, are met by a walk that goes on only
--- below opened nodes: an opened node gives what its two halves give, and below any other visited node there is nothing.
+-- The nodes that are opened, and those that the outer and the inner range are over, are met by a visit that goes on
+-- only below opened nodes: an opened node gives what its two halves give, and below any other visited node there is
+-- nothing.
 -- Assumes nothing.
 use mathlib.Core.Path.{_≡_, refl, sym, ap, _∙_}
 use mathlib.Core.Bool.{Bool, true, false, cond, _&&_, and-false}

@@ -1,7 +1,7 @@
 -- A column without an hour shares none with any node: it has no outer and no inner range, no inside node and so no
 -- reading, and its count is 0. Assumes nothing.
 use mathlib.Core.Path.{_≡_, refl}
-use mathlib.Core.Bool.{Bool, true, false, not, _&&_}
+use mathlib.Core.Bool.{Bool, false, not, _&&_, and-false}
 use mathlib.Core.List.{List, [], _∷_}
 use Prim.Native.Nat.{ℕ, _≤_}
 use native.Mathlib.Omega.{arith}
@@ -20,10 +20,6 @@ use Rattle.om3.proofs.Tests.{fails-up}
 use Rattle.om3.proofs.Intervals.{shares-overlap}
 use Rattle.om3.proofs.KeptNodes.{inside-inner}
 
-and-false : (a b : Bool) → b ≡ false → (a && b) ≡ false
-and-false true b e = e
-and-false false b e = refl
-
 none-kept : (p : Node → Bool) → ((v : Node) → p v ≡ false) → (vs : List Node) → keep p vs ≡ []
 unfolding keep
 none-kept p fails [] = refl
@@ -35,7 +31,7 @@ module _ (l : ℕ) (t : Table) (x : Column) (none : x .upto .0 ≤ x .from .0) w
 
   not-outer : (d : ℕ) (v : Node) → isOuter l t x d v ≡ false
   not-outer d v =
-      and-false (visited l t x d v && not (opened l t x d v) && hasReading l t v) (shares l x v) (unshared v)
+      rw (unshared v) (and-false (visited l t x d v && not (opened l t x d v) && hasReading l t v))
 
   pub none-outer : (d : ℕ) → outer l t x d ≡ Empty
   unfolding outer rangeOver

@@ -3,7 +3,7 @@
 --   Check            a check passes, or refuses the call
 --   refuseIf b why   the check that refuses by the cause `why` exactly when b is true
 --   andThen c next   the check c, and where it passes the check `next`
---   inOrder cs       the first check of a list that refuses decides; where all pass, the call is taken
+--   inOrder cs       the first check of a list that refuses decides; where all pass, it passes
 --   answerBy         what a call answers: `refused why` where its checks refuse by `why`, else `taken`
 --   FirstCause       the first check of a list that refuses does so by this cause
 use mathlib.Core.Path.{_≡_}

@@ -78,7 +78,7 @@ secondOfPair (Held low high) c =
     (cond (eqb c 3) (Held low low)
     Empty))
 
--- The coefficient at a place. What lies past the end is never asked for; it reads 0.
+-- The coefficient at a place; past the end 0, on which no answer rests, since check 3 comes first.
 abbrev pub coefficientAt : Table → ℕ → ℤ
 coefficientAt t p = getD (t .coefficients) p (pos 0)
 

@@ -1,7 +1,7 @@
--- Demand 3: when a column is drawn, and how what it answers at its depths stands to the series. Assumes nothing.
+-- Demand 3: when a column is drawn, and how its answers at each depth compare with the series. Assumes nothing.
 --
 --   Drawn n a b w k   checks 5 and 6 pass: a window of n hours, and one of its columns
---   Ranged n s t x    how the ranges and counts of column x, in a table t of n hours, stand to the series s
+--   Ranged n s t x    how the ranges and counts of column x, in a table t of n hours, compare with the series s
 use mathlib.Core.Path.{_≡_}
 use mathlib.Core.Bool.{true, false}
 use mathlib.Core.List.{List, map}

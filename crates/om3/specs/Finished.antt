@@ -72,18 +72,18 @@ module _ (l : ℕ) (t : Table) where
   abbrev pub readingAt : Node → Reading
   readingAt v = record { hour = hour (v .index); grams = lowOf (reached l t v) }
 
-  -- From the earliest of these nodes the walk to the first reading, then from the latest the walk to the last; no node,
-  -- no walk. [columns 15, 16]
-  -- Deviation: document 004's Algorithm 1 goes into no node that lies inside a column; we do, since a column may begin
-  -- or end where a node does.
+  -- From the earliest of a column's non-empty inside visited nodes, `insideNodes` below, the walk to the first reading,
+  -- then from the latest the walk to the last; no node, no walk. [columns 15, 16]
+  -- Deviation: document 004's Algorithm 1 goes into no node that lies inside a column; we walk into the earliest and
+  -- the latest, since the column's first and last reading are there.
   abbrev pub walksFrom : List Node → List Walk
   walksFrom [] = []
   walksFrom (v ∷ vs) = firstWalk v ∷ lastWalk (lastOf v vs) ∷ []
 
   -- First and last reading, each with its hour, at the ends of the walks, and the low and the high of these nodes; no
   -- node, no reading. [columns 13, 14]
-  -- Deviation: document 004's Algorithm 1 records a column's lowest and highest value alone; document 01 asks for its
-  -- first and its last reading too, with their hours.
+  -- Deviation: document 004 speaks of four M4 samples a column, but its Algorithm 1 records lowest and highest value;
+  -- we answer the first and the last reading of every column too, with their hours.
   abbrev pub answerFrom : List Node → Answer
   answerFrom [] = Answer.NoReading
   answerFrom (v ∷ vs) =

@@ -37,7 +37,7 @@ number v = record { 0 = 2 ^ v .level + v .index }
 abbrev pub root : Node
 root = record { level = 0; index = 0 }
 
--- Node i has halves 2i and 2i + 1, of the level below. [hours 8]
+-- Node i has halves 2i and 2i + 1 (`number-left`, `number-right` on the page Laws), of the level below. [hours 8]
 abbrev pub left : Node → Node
 left v = record { level = suc (v .level); index = 2 * v .index }
 

@@ -54,8 +54,8 @@ ranges outerLow outerHigh innerLow innerHigh count =
 abbrev outerAlone : (outerLow outerHigh count : ℕ) → Reply
 outerAlone outerLow outerHigh count = says (taken (g outerLow ∷ g outerHigh ∷ gap ∷ gap ∷ pos count ∷ []))
 
-abbrev refused : (number place : ℕ) → Reply
-refused number place = says (record { number = number; place = place; values = [] })
+abbrev refusal : (number place : ℕ) → Reply
+refusal number place = says (record { number = number; place = place; values = [] })
 
 -- The hours from a up to, not including, b.
 abbrev hoursOf : (a b : ℕ) → Reply
@@ -98,10 +98,10 @@ numbers c e =
     ∷ (finishedFor 2 (g 7 ∷ g 9 ∷ []) 0 2 4 1 is says (taken (pos 0 ∷ [])))
     ∷ (stoppedFor 2 (g 7 ∷ g 9 ∷ []) 0 2 4 3 0 is says (taken (gap ∷ gap ∷ gap ∷ gap ∷ pos 0 ∷ [])))
     -- 9
-    ∷ (turningFor 2 (g 5 ∷ g 4 ∷ []) (c ∷ []) is refused 4 0)
-    ∷ (turningFor 2 (g 5 ∷ g 5 ∷ []) (1 ∷ []) is refused 4 1)
+    ∷ (turningFor 2 (g 5 ∷ g 4 ∷ []) (c ∷ []) is refusal 4 0)
+    ∷ (turningFor 2 (g 5 ∷ g 5 ∷ []) (1 ∷ []) is refusal 4 1)
     -- 10
-    ∷ (turningFor 4 (g 10 ∷ g 20 ∷ -g 15 ∷ g 0 ∷ []) (c ∷ e ∷ []) is refused 4 1)
+    ∷ (turningFor 4 (g 10 ∷ g 20 ∷ -g 15 ∷ g 0 ∷ []) (c ∷ e ∷ []) is refusal 4 1)
     ∷ []
 
 -- Day 0 runs from 40000 to 40600, day 1 is 41000, 41100.
@@ -112,16 +112,16 @@ days = g 40000 ∷ replicate 22 gap ++ g 40600 ∷ g 41000 ∷ g 41100 ∷ []
 abbrev pub unmarked : List Case
 unmarked =
     -- 11
-    (makingFor 3 (g 0 ∷ -g 1000000 ∷ g 1000001 ∷ []) is refused 2 2)
-    ∷ (edgesFor 16385 0 1 1 0 is refused 1 0)
+    (makingFor 3 (g 0 ∷ -g 1000000 ∷ g 1000001 ∷ []) is refusal 2 2)
+    ∷ (edgesFor 16385 0 1 1 0 is refusal 1 0)
     ∷ (stoppedFor 7 seven 0 7 3 0 3 is ranges 41200 41350 41200 41350 7)
-    ∷ (stoppedFor 7 seven 0 7 3 0 4 is refused 7 0)
+    ∷ (stoppedFor 7 seven 0 7 3 0 4 is refusal 7 0)
     ∷ (edgesFor 7 0 7 4096 4095 is hoursOf 7 7)
-    ∷ (edgesFor 7 0 7 4097 0 is refused 6 0)
+    ∷ (edgesFor 7 0 7 4097 0 is refusal 6 0)
     -- 12
     ∷ (dayFor 26 days 0 is says (taken (g 600 ∷ [])))
     ∷ (dayFor 26 days 1 is says (taken (g 100 ∷ [])))
-    ∷ (dayFor 26 days 2 is refused 5 0)
+    ∷ (dayFor 26 days 2 is refusal 5 0)
     -- the house record
     ∷ (sizeFor 2 is says (taken (pos 10 ∷ pos 14 ∷ [])))
     ∷ (sizeFor 16384 is says (taken (pos 57347 ∷ pos 57351 ∷ [])))
@@ -164,40 +164,40 @@ further =
     ∷ (finishedFor 4 (gap ∷ g 5 ∷ g 6 ∷ g 7 ∷ []) 1 2 4 1 is says (taken (pos 0 ∷ [])))
     ∷ (finishedIn 2 (g 5 ∷ g 4 ∷ []) (0 ∷ []) 0 2 4 1 is says (taken (pos 0 ∷ [])))
     -- all below the left half before the right half: pair 4 before node 3 [sound 6]
-    ∷ (turningFor 8 (g 1 ∷ g 8 ∷ -g 4 ∷ -g 4 ∷ -g 2 ∷ -g 2 ∷ gap ∷ -g 2 ∷ []) (9 ∷ 1 ∷ 1 ∷ 1 ∷ []) is refused 4 4)
+    ∷ (turningFor 8 (g 1 ∷ g 8 ∷ -g 4 ∷ -g 4 ∷ -g 2 ∷ -g 2 ∷ gap ∷ -g 2 ∷ []) (9 ∷ 1 ∷ 1 ∷ 1 ∷ []) is refusal 4 4)
     -- one mark alone, and code 2 with low < high, are unsound [sound 3, 4]
-    ∷ (turningFor 4 (g 5 ∷ g 5 ∷ g 2000001 ∷ g 0 ∷ []) (0 ∷ 4 ∷ []) is refused 4 1)
-    ∷ (turningFor 2 (g 5 ∷ g 6 ∷ []) (2 ∷ []) is refused 4 1)
+    ∷ (turningFor 4 (g 5 ∷ g 5 ∷ g 2000001 ∷ g 0 ∷ []) (0 ∷ 4 ∷ []) is refusal 4 1)
+    ∷ (turningFor 2 (g 5 ∷ g 6 ∷ []) (2 ∷ []) is refusal 4 1)
     -- opened nodes are examined before the walk to the first reading: pair 7 before pair 4 [columns 16]
-    ∷ (finishedIn 8 eight (9 ∷ 1 ∷ 1 ∷ 9 ∷ []) 0 7 1 0 is refused 4 7)
+    ∷ (finishedIn 8 eight (9 ∷ 1 ∷ 1 ∷ 9 ∷ []) 0 7 1 0 is refusal 4 7)
     -- pairs between the two walks are not examined [columns 18]
     ∷ (finishedIn 8 eight (1 ∷ 9 ∷ 9 ∷ 1 ∷ []) 0 8 1 0 is shown 0 7 1 8 1 8 7)
     -- a reading at hour 12 of a series of 9 hours is found at its pair [sound 4]
-    ∷ (turningFor 9 late (4 ∷ 4 ∷ 4 ∷ 4 ∷ 4 ∷ 4 ∷ 2 ∷ 4 ∷ []) is refused 4 14)
+    ∷ (turningFor 9 late (4 ∷ 4 ∷ 4 ∷ 4 ∷ 4 ∷ 4 ∷ 2 ∷ 4 ∷ []) is refusal 4 14)
     -- level 1 of the printer's seven hours; there is no level 2 of details [level 1, 2]
     ∷ (levelFor 7 1 (tableFrom 7 seven .coefficients) is says (taken (g 300 ∷ g 450 ∷ g 2000001 ∷ g 2000001 ∷ [])))
     ∷ (levelFor 7 2 (tableFrom 7 seven .coefficients) is says (taken []))
     -- the house record byte by byte [record 1, 2, 3, 4, 5, 6]
     ∷ (recordFor 1 (-g 500 ∷ []) is bytes fourteen)
     ∷ (openFor fourteen is says (taken (pos 1 ∷ pos 2 ∷ [])))
-    ∷ (openFor (fourteen ++ 0 ∷ []) is refused 11 0)
+    ∷ (openFor (fourteen ++ 0 ∷ []) is refusal 11 0)
     -- a record is refused by the first cause in order [refusals 19]
-    ∷ (openFor (0 ∷ 0 ∷ 0 ∷ 10 ∷ 2 ∷ 0 ∷ []) is refused 8 0)
-    ∷ (openFor (0 ∷ 0 ∷ 0 ∷ 11 ∷ 2 ∷ 0 ∷ 0 ∷ []) is refused 9 0)
-    ∷ (openFor (0 ∷ 0 ∷ 0 ∷ 11 ∷ 1 ∷ 0 ∷ 0 ∷ []) is refused 1 0)
-    ∷ (openFor (0 ∷ 0 ∷ 0 ∷ 11 ∷ 1 ∷ 0 ∷ 1 ∷ []) is refused 10 0)
-    ∷ (openFor (0 ∷ 0 ∷ 0 ∷ 10 ∷ 1 ∷ 0 ∷ 1 ∷ []) is refused 8 0)
+    ∷ (openFor (0 ∷ 0 ∷ 0 ∷ 10 ∷ 2 ∷ 0 ∷ []) is refusal 8 0)
+    ∷ (openFor (0 ∷ 0 ∷ 0 ∷ 11 ∷ 2 ∷ 0 ∷ 0 ∷ []) is refusal 9 0)
+    ∷ (openFor (0 ∷ 0 ∷ 0 ∷ 11 ∷ 1 ∷ 0 ∷ 0 ∷ []) is refusal 1 0)
+    ∷ (openFor (0 ∷ 0 ∷ 0 ∷ 11 ∷ 1 ∷ 0 ∷ 1 ∷ []) is refusal 10 0)
+    ∷ (openFor (0 ∷ 0 ∷ 0 ∷ 10 ∷ 1 ∷ 0 ∷ 1 ∷ []) is refusal 8 0)
     -- so is writing, and reading after the causes of opening [refusals 18, 19]
-    ∷ (writingFor 0 [] [] 0 is refused 1 0)
-    ∷ (writingFor 2 (g 5 ∷ g 4 ∷ []) (0 ∷ []) 13 is refused 3 0)
-    ∷ (writingFor 2 (g 5 ∷ g 4 ∷ []) (0 ∷ []) 14 is refused 4 0)
+    ∷ (writingFor 0 [] [] 0 is refusal 1 0)
+    ∷ (writingFor 2 (g 5 ∷ g 4 ∷ []) (0 ∷ []) 13 is refusal 3 0)
+    ∷ (writingFor 2 (g 5 ∷ g 4 ∷ []) (0 ∷ []) 14 is refusal 4 0)
     ∷ (writingFor 2 (g 4 ∷ g 5 ∷ []) (0 ∷ []) 14 is says (taken (pos 14 ∷ [])))
-    ∷ (readingFor (fourteen ++ 0 ∷ []) 1 0 is refused 11 0)
-    ∷ (readingFor damaged 1 1 is refused 3 0)
-    ∷ (readingFor damaged 2 1 is refused 4 1)
+    ∷ (readingFor (fourteen ++ 0 ∷ []) 1 0 is refusal 11 0)
+    ∷ (readingFor damaged 1 1 is refusal 3 0)
+    ∷ (readingFor damaged 2 1 is refusal 4 1)
     ∷ (readingFor fourteen 2 1 is says (taken (pos 1 ∷ [])))
     ∷ (askFor fourteen 1 is says (taken (-g 500 ∷ [])))
-    ∷ (askFor fourteen 2 is refused 13 0)
+    ∷ (askFor fourteen 2 is refusal 13 0)
     ∷ []
 
 -- What is printed for a text.

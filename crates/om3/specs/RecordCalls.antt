@@ -107,7 +107,8 @@ unpacking r t = answerBy Unpacking.Refused (inOrder (unpackingChecks r t)) (Unpa
 abbrev pub checkPlace : (places p : ℕ) → Check
 checkPlace places p = refuseIf (leb places p) BadPlace
 
--- 8: the bytes do not reach the coefficient at place p; of no opened record. [refusals 8]
+-- 8: the bytes do not reach the coefficient at place p. No opened record has such a place; the check is ours, so that
+-- every view is answered. [refusals 8]
 abbrev pub checkReach : List ℕ → ℕ → Check
 checkReach r p = refuseIf (ltb (length r) (headerSize + 3 * p + 3)) CutShort
 

@@ -58,8 +58,9 @@ module _ (l : ℕ) (t : Table) (x : Column) where
   -- A node is opened if it has a reading, shares an hour with the column and is not wholly inside it; at depth d only a
   -- node of level below d. [columns 6, 7]
   -- Deviation: document 004 prunes nodes whose range is covered already; we prune none, since counts, first and last
-  -- would change. It takes the hours of a pair that two columns share into neither's range; we open pairs, so that low
-  -- and high are exact.
+  -- would change.
+  -- Deviation: it takes the hours of a pair that two columns share into neither's range; we open pairs, so that low and
+  -- high are exact.
   unfoldable pub opened : ℕ → Node → Bool
   opened d v = hasReading l t v && shares l x v && not (inside l x v) && ltb (v .level) d
 

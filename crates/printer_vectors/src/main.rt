@@ -56,13 +56,13 @@ fn show(text: &[u8], size: usize) {
     let closed = parsing::close(read, &line, &mut hours);
     let n = printing::print(closed, &hours, &mut out);
     io::write_all(libc::STDOUT_FILENO, &out[..n]);
-    lines::print_end();
+    vector_lines::print_end();
 }
 
 // Shows the text whose length begins at `at`, and tells where the next one begins.
 fn show_next(input: &[u8], at: usize) -> usize {
-    let length = lines::number_at(input, at);
-    let size = lines::number_at(input, length.next);
+    let length = vector_lines::number_at(input, at);
+    let size = vector_lines::number_at(input, length.next);
     let from = lesser(size.next, input.len());
     let left = input.len() - from;
     let upto = from + lesser(length.size as usize, left);
@@ -83,7 +83,7 @@ fn show_all(input: &[u8]) {
 }
 
 fn main() {
-    let mut input = lines::no_text();
+    let mut input = vector_lines::no_text();
     let n = io::read_full(libc::STDIN_FILENO, &mut input);
     show_all(&input[..n]);
 }

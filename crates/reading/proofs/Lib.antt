@@ -1,4 +1,3 @@
 -- What the proofs of reading rest on, in reading order.
-pub mod Examining
 pub mod ReadingParts
 pub mod ReadingRecords

@@ -18,11 +18,12 @@ use Rattle.om3.specs.Checks.{Check, refuses, inOrder}
 use Rattle.om3.specs.Refusals.{short, tableShort, examineTable}
 use Rattle.om3.proofs.Examined.{then-passes}
 use Rattle.om3.proofs.Lent.{coefficients-there, codes-there}
-use Rattle.turning.specs.declared.Verdict.{Verdict}
-use Rattle.turning.specs.Turning.{checkOf}
+use Rattle.examining.specs.declared.Verdict.{Verdict}
+use Rattle.examining.specs.Examining.{checkOf}
 use Rattle.packing.specs.Packing.{unpacked}
-use Rattle.reading.specs.Reading.{PackedTable, partsCheck, PartsRead}
-use Rattle.reading.proofs.Examining.{unpacked-length}
+use Rattle.examining_bytes.specs.Packed.{PackedTable}
+use Rattle.reading.specs.Reading.{partsCheck, PartsRead}
+use Rattle.examining_bytes.proofs.Unpacked.{unpacked-length}
 
 -- The lent buffers are cs and ds.
 module _ (n : ℕ) (bs ks : List ℕ) (cs : List ℤ) (ds : List ℕ) (t : PackedTable n bs ks) where

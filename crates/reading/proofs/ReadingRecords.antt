@@ -21,8 +21,9 @@ use Rattle.om3.proofs.Making.{good-some}
 use Rattle.om3.proofs.RecordsOpened.{opens-formed, asked-unpacked}
 use Rattle.om3.proofs.RecordsTaken.{unpacking-parted}
 use Rattle.packing.specs.Packing.{coefficientFrom, unpacked}
-use Rattle.reading.specs.Reading.{PackedTable, partsCheck, PartsRead, RecordRead}
-use Rattle.reading.proofs.Examining.{unpacked-length, unpacked-at}
+use Rattle.examining_bytes.specs.Packed.{PackedTable}
+use Rattle.reading.specs.Reading.{partsCheck, PartsRead, RecordRead}
+use Rattle.examining_bytes.proofs.Unpacked.{unpacked-length, unpacked-at}
 
 -- A part of the first b bytes is that part of all of them.
 part-within : (l : List ℕ) (p w b : ℕ) → p + w ≤ b → b ≤ length l → bytesAt (take b l) p w ≡ bytesAt l p w

@@ -21,37 +21,37 @@ use words::Asking;
 // Writes a record and writes the answer.
 fn show_write(n: usize, coefficients: &[i32], codes: &[u8], bytes: &mut [u8]) {
     let told = sagivelume::sagivelume_write_record(n, coefficients, codes, bytes);
-    lines::print_head(told.number, told.place);
-    lines::print_more(told.bytes);
-    lines::print_bytes(bytes);
-    lines::print_end();
+    vector_lines::print_head(told.number, told.place);
+    vector_lines::print_more(told.bytes);
+    vector_lines::print_bytes(bytes);
+    vector_lines::print_end();
 }
 
 // Reads a record and writes the answer.
 fn show_read(bytes: &[u8], coefficients: &mut [i32], codes: &mut [u8]) {
     let told = sagivelume::sagivelume_read_record(bytes, coefficients, codes);
-    lines::print_head(told.number, told.place);
-    lines::print_more(told.hours);
-    lines::print_grams(coefficients);
-    lines::print_bytes(codes);
-    lines::print_end();
+    vector_lines::print_head(told.number, told.place);
+    vector_lines::print_more(told.hours);
+    vector_lines::print_grams(coefficients);
+    vector_lines::print_bytes(codes);
+    vector_lines::print_end();
 }
 
 // Opens a record and writes the answer.
 fn show_open(bytes: &[u8]) {
     let told = sagivelume::sagivelume_open_record(bytes);
-    lines::print_head(told.number, told.place);
-    lines::print_more(told.hours);
-    lines::print_more(told.places);
-    lines::print_end();
+    vector_lines::print_head(told.number, told.place);
+    vector_lines::print_more(told.hours);
+    vector_lines::print_more(told.places);
+    vector_lines::print_end();
 }
 
 // Asks an opened record and writes the answer.
 fn show_ask(bytes: &[u8], places: usize, place: usize) {
     let told = sagivelume::sagivelume_ask(bytes, places, place);
-    lines::print_head(told.number, told.place);
-    lines::print_more_grams(told.coefficient);
-    lines::print_end();
+    vector_lines::print_head(told.number, told.place);
+    vector_lines::print_more_grams(told.coefficient);
+    vector_lines::print_end();
 }
 
 // Opens a record, asks it, and writes the answer.
@@ -59,29 +59,29 @@ fn show_ask_record(bytes: &[u8], place: usize) {
     let asking = view::ask_record(bytes, place);
     match asking {
         Asking::Coefficient(coefficient) => {
-            lines::print_head(0, 0);
-            lines::print_more_grams(coefficient);
+            vector_lines::print_head(0, 0);
+            vector_lines::print_more_grams(coefficient);
         }
         Asking::Refused(why) => {
-            lines::print_head(words::number_of(why), words::place_of(why));
-            lines::print_more_grams(0);
+            vector_lines::print_head(words::number_of(why), words::place_of(why));
+            vector_lines::print_more_grams(0);
         }
     }
-    lines::print_end();
+    vector_lines::print_end();
 }
 
 // A call of writing, whose n begins at `at`. Tells where the next call begins.
 fn answer_write(text: &[u8], at: usize) -> usize {
-    let hours = lines::number_at(text, at);
+    let hours = vector_lines::number_at(text, at);
     let n = hours.size as usize;
-    let mut coefficients = lines::no_grams();
-    let first = lines::lend_grams(text, hours.next, &mut coefficients);
+    let mut coefficients = vector_lines::no_grams();
+    let first = vector_lines::lend_grams(text, hours.next, &mut coefficients);
     let c = first.length;
-    let mut codes = lines::no_codes();
-    let second = lines::lend_bytes(text, first.next, &mut codes);
+    let mut codes = vector_lines::no_codes();
+    let second = vector_lines::lend_bytes(text, first.next, &mut codes);
     let k = second.length;
-    let mut bytes = lines::no_record();
-    let third = lines::lend_bytes(text, second.next, &mut bytes);
+    let mut bytes = vector_lines::no_record();
+    let third = vector_lines::lend_bytes(text, second.next, &mut bytes);
     let b = third.length;
     show_write(n, &coefficients[..c], &codes[..k], &mut bytes[..b]);
     third.next
@@ -89,14 +89,14 @@ fn answer_write(text: &[u8], at: usize) -> usize {
 
 // A call of reading, whose record begins at `at`. Tells where the next call begins.
 fn answer_read(text: &[u8], at: usize) -> usize {
-    let mut bytes = lines::no_record();
-    let first = lines::lend_bytes(text, at, &mut bytes);
+    let mut bytes = vector_lines::no_record();
+    let first = vector_lines::lend_bytes(text, at, &mut bytes);
     let b = first.length;
-    let mut coefficients = lines::no_grams();
-    let second = lines::lend_grams(text, first.next, &mut coefficients);
+    let mut coefficients = vector_lines::no_grams();
+    let second = vector_lines::lend_grams(text, first.next, &mut coefficients);
     let c = second.length;
-    let mut codes = lines::no_codes();
-    let third = lines::lend_bytes(text, second.next, &mut codes);
+    let mut codes = vector_lines::no_codes();
+    let third = vector_lines::lend_bytes(text, second.next, &mut codes);
     let k = third.length;
     show_read(&bytes[..b], &mut coefficients[..c], &mut codes[..k]);
     third.next
@@ -104,8 +104,8 @@ fn answer_read(text: &[u8], at: usize) -> usize {
 
 // A call of opening, whose record begins at `at`. Tells where the next call begins.
 fn answer_open(text: &[u8], at: usize) -> usize {
-    let mut bytes = lines::no_record();
-    let only = lines::lend_bytes(text, at, &mut bytes);
+    let mut bytes = vector_lines::no_record();
+    let only = vector_lines::lend_bytes(text, at, &mut bytes);
     let b = only.length;
     show_open(&bytes[..b]);
     only.next
@@ -113,12 +113,12 @@ fn answer_open(text: &[u8], at: usize) -> usize {
 
 // A call of asking an opened record, whose places begin at `at`. Tells where the next call begins.
 fn answer_ask(text: &[u8], at: usize) -> usize {
-    let has = lines::number_at(text, at);
-    let asked = lines::number_at(text, has.next);
+    let has = vector_lines::number_at(text, at);
+    let asked = vector_lines::number_at(text, has.next);
     let places = has.size as usize;
     let place = asked.size as usize;
-    let mut bytes = lines::no_record();
-    let only = lines::lend_bytes(text, asked.next, &mut bytes);
+    let mut bytes = vector_lines::no_record();
+    let only = vector_lines::lend_bytes(text, asked.next, &mut bytes);
     let b = only.length;
     show_ask(&bytes[..b], places, place);
     only.next
@@ -126,10 +126,10 @@ fn answer_ask(text: &[u8], at: usize) -> usize {
 
 // A call of opening and asking, whose place begins at `at`. Tells where the next call begins.
 fn answer_ask_record(text: &[u8], at: usize) -> usize {
-    let asked = lines::number_at(text, at);
+    let asked = vector_lines::number_at(text, at);
     let place = asked.size as usize;
-    let mut bytes = lines::no_record();
-    let only = lines::lend_bytes(text, asked.next, &mut bytes);
+    let mut bytes = vector_lines::no_record();
+    let only = vector_lines::lend_bytes(text, asked.next, &mut bytes);
     let b = only.length;
     show_ask_record(&bytes[..b], place);
     only.next
@@ -138,7 +138,7 @@ fn answer_ask_record(text: &[u8], at: usize) -> usize {
 // Answers the call that begins at `at`, and tells where the next one begins. A number that begins no call is passed
 // over.
 fn answer(text: &[u8], at: usize) -> usize {
-    let call = lines::number_at(text, at);
+    let call = vector_lines::number_at(text, at);
     let what = call.size;
     if what == 1 {
         return answer_write(text, call.next);
@@ -171,7 +171,7 @@ fn answer_all(text: &[u8]) {
 }
 
 fn main() {
-    let mut text = lines::no_text();
+    let mut text = vector_lines::no_text();
     let n = io::read_full(0, &mut text);
     answer_all(&text[..n]);
 }

@@ -117,7 +117,7 @@ pub extern "C" fn sagivelume_edges(
 ) -> ToldColumn
     ensures { λ r. ⌜ r ≡ edgesTold (edges n a b w column) ⌝ }
 {
-    told::columns::of_edges(columns::edges(n, Timestamp(a), Timestamp(b), w, column))
+    told::columns::of_edges(windows::edges(n, Timestamp(a), Timestamp(b), w, column))
 }
 
 // That column stopped at a depth, from a table of n hours: needs P coefficients and P/2 codes. Refusals 1, 3, 5, 6, 7,
@@ -178,7 +178,7 @@ pub extern "C" fn sagivelume_finished(
 pub extern "C" fn sagivelume_join(left: ToldAnswer, right: ToldAnswer) -> ToldAnswer
     ensures { λ r. ⌜ r ≡ answerTold (joined (answerIn left) (answerIn right)) ⌝ }
 {
-    told::columns::of_answer(columns::join(
+    told::columns::of_answer(answers::join(
         told::columns::answer_in(left),
         told::columns::answer_in(right),
     ))
@@ -194,5 +194,5 @@ pub extern "C" fn sagivelume_day_change(
 ) -> ToldChange
     ensures { λ r. ⌜ r ≡ changeTold (dayChange n (lent (now (coefficients .entry)) (now (codes .entry))) day) ⌝ }
 {
-    told::columns::of_change(columns::day_change(n, coefficients, codes, day))
+    told::columns::of_change(days::day_change(n, coefficients, codes, day))
 }

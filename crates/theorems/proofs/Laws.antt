@@ -1,11 +1,11 @@
--- What is proved of the definitions by themselves: what P is, which nodes are examined and what the examination of a
--- table says, how three bytes hold a number and a record a table, what a column without an hour has, and what a look
--- through hours gives. Assumes nothing.
+-- What is proved of the definitions by themselves: what P is, how nodes are numbered, which nodes are examined and
+-- what the examination of a table says, how three bytes hold a number and a record a table, what a column without an
+-- hour has, and what a look through hours gives. Assumes nothing.
 use mathlib.Core.Path.{_≡_}
 use mathlib.Core.Bool.{Bool, true, false}
-use mathlib.Core.List.{List, [], _∷_, map, foldr}
+use mathlib.Core.List.{List, [], _∷_, _++_, map, foldr}
 use mathlib.Core.Logic.{_↔_}
-use Prim.Native.Nat.{ℕ, _/_, _^_, _≤_, _<_}
+use Prim.Native.Nat.{ℕ, _+_, _*_, _/_, _^_, _≤_, _<_}
 use lib.IntN.{ℤ}
 use lib.ListN.{length, take}
 use Rattle.words.specs.Constants.{largestHours}
@@ -15,7 +15,7 @@ use Rattle.words.specs.declared.Answer.{Answer}
 use Rattle.words.specs.declared.Column.{Column}
 use Rattle.om3.specs.Lists.{every}
 use Rattle.om3.specs.Series.{Series, levels, P}
-use Rattle.om3.specs.Nodes.{Node, InTree}
+use Rattle.om3.specs.Nodes.{Node, InTree, number, left, right, hours, nodeOf}
 use Rattle.om3.specs.Table.{Table, tableOf, HasTable}
 use Rattle.om3.specs.Down.{turnedBack}
 use Rattle.om3.specs.Checks.{passes, inOrder}
@@ -46,6 +46,20 @@ levels-from-1 = om3.Levels.levels-some
 
 levels-to-14 : (n : ℕ) → levels n ≤ 14
 levels-to-14 = om3.Levels.levels-most
+
+-- The halves of node i have the numbers 2i and 2i + 1, and cover its hours, the left half's first.
+number-left : (v : Node) → number (left v) .0 ≡ 2 * number v .0
+number-left = om3.Nodes.number-left
+
+number-right : (v : Node) → number (right v) .0 ≡ 2 * number v .0 + 1
+number-right = om3.Nodes.number-right
+
+hours-halves : (l : ℕ) (v : Node) → v .level < l → hours l v ≡ hours l (left v) ++ hours l (right v)
+hours-halves = om3.Nodes.hours-halves
+
+-- A node is found by its number.
+node-of-number : (l : ℕ) (v : Node) → InTree l v → nodeOf l (number v) ≡ v
+node-of-number = om3.Nodes.node-of-number
 
 -- For 1 to 16,384 hours and with room, a table is sound exactly if some series of n hours has it.
 sound-exactly : (n : ℕ) → 1 ≤ n → n ≤ largestHours → (t : Table) → tableShort n t ≡ false
@@ -82,9 +96,9 @@ three-range = om3.ThreeBytes.three-range
 three-forth : (bs : List ℕ) → Bytes bs → length bs ≡ 3 → threeBytes (signedFrom bs) ≡ bs
 three-forth = om3.ThreeBytes.three-forth
 
--- One number is in one three bytes, and one three bytes have one number.
-three-one : (bs cs : List ℕ) → Bytes bs → length bs ≡ 3 → Bytes cs → length cs ≡ 3 → signedFrom bs ≡ signedFrom cs
-    → bs ≡ cs
+-- Different three bytes spell different numbers, and different numbers have different bytes.
+three-one : (bs bs′ : List ℕ) → Bytes bs → length bs ≡ 3 → Bytes bs′ → length bs′ ≡ 3
+    → signedFrom bs ≡ signedFrom bs′ → bs ≡ bs′
 three-one = om3.ThreeBytes.three-one
 
 three-apart : (y z : ℤ) → InThree y → InThree z → threeBytes y ≡ threeBytes z → y ≡ z
@@ -117,8 +131,7 @@ one-record = om3.RecordsForth.record-one
 opening-exactly : (r : List ℕ) → (inOrder (openingChecks r) ≡ passes) ↔ Openable r
 opening-exactly = om3.RecordsOpened.opening-exactly
 
--- Of a record that opening takes, asking finds every place that is not refused with 13 within the bytes: asking it is
--- asking its view.
+-- A record that opening takes reaches each of its P places, so asking it is asking its view.
 asking-opened : (r : List ℕ) (p : ℕ) → inOrder (openingChecks r) ≡ passes → asking r p ≡ askingView r (P (hoursIn r)) p
 asking-opened = om3.RecordsOpened.asking-opened
 

@@ -22,7 +22,7 @@ use Rattle.theorems.proofs as theorems
 each-call : EachCall
 each-call = theorems.Once.each-call
 
--- .. a list of checks, as each call has one beside its definition in om3, refuses by its first cause alone ..
+-- .. a list of checks, as each call that refuses has one in om3, refuses by its first cause alone ..
 first-cause : (cs : List Check) (why : Refusal) → (inOrder cs ≡ refuses why) ↔ FirstCause cs why
 first-cause = om3.Examined.first-cause
 
@@ -30,7 +30,7 @@ first-cause = om3.Examined.first-cause
 nothing-written : NothingWritten
 nothing-written = theorems.Unwritten.nothing-written
 
--- Demand 2. With room lent, making takes a series, the first n numbers lent, and writes its table (om3's Table).
+-- Demand 2. With room lent, making takes the first n numbers lent if they are a series, and writes its table.
 make-writes : (n : ℕ) (s cs : List ℤ) (ks : List ℕ) → Series n (take n s) → tableShort n (lent cs ks) ≡ false
     → (cs′ : List ℤ) (ks′ : List ℕ) (r : Taking) → Made n s cs ks cs′ ks′ r
     → (let t = tableOf (levels n) n (take n s) in (r ≡ Taking.Taken) × (cs′ ≡ filled (t .coefficients) cs)
@@ -80,9 +80,8 @@ one-series : (n m : ℕ) (r : List ℕ) (s u : List ℤ) → Series n s → HasR
     → (n ≡ m) × (s ≡ u)
 one-series = om3.RecordsTaken.record-series
 
--- Demand 3. From a table that a series has, as one made from readings does, a finished column of a window answers the
--- first and last reading with their hours, the lowest and the highest, as a look through its hours gives them, or that
--- there is none, and the defined count ..
+-- Demand 3. From a table that a series has, as one made from readings does, a finished column answers as a look
+-- through its hours: first and last reading with their hours, lowest and highest, or none; and the defined count ..
 module _ (n : ℕ) (s : List ℤ) (t : Table) (series : Series n s) (has : HasTable n s t)
     (a b w k : ℕ) (drawn : Drawn n a b w k) where
   finished-column : (let x = column a b w k in

@@ -1,8 +1,8 @@
 -- Demand 1 for the calls: each may be made with anything, and its contract leaves nothing open, so that two results
--- that it allows are equal. What a call asks and what it promises are `Asked` and `Learnt` of that call, which the
--- checker reads from the `requires` and the `ensures` of its source: these laws are about the contracts themselves.
--- Of two calls of the view, which are proved by hand, the checker has no such reading; ProvedByHand is about their
--- clauses. That a call ends is what the checker demands of every function. Assumes nothing.
+-- that it allows are equal. [statements 1] What a call asks and what it promises are `Asked` and `Learnt` of that
+-- call, which the checker reads from the `requires` and the `ensures` of its source: these laws are about the
+-- contracts themselves. Of two calls of the view, which are proved by hand, the checker has no such reading;
+-- ProvedByHand is about their clauses. That a call ends is what the checker demands of every function. Assumes nothing.
 --
 --   OneAnswer asked ensured         a call that asks nothing, and whose contract allows one answer
 --   OneBuffer left asked ensured    the same with a buffer lent to be written, of which `left` is what the call leaves
@@ -34,11 +34,11 @@ use Rattle.opening.proofs.ask.Reads as ask
 use Rattle.view.proofs.open as opening
 use Rattle.view.proofs.ask as asking
 use Rattle.view.proofs.ask_record.Reads as ask-record
-use Rattle.columns.proofs.edges.Reads as edges
+use Rattle.windows.proofs.edges.Reads as edges
 use Rattle.columns.proofs.stopped.Reads as stopped
 use Rattle.columns.proofs.finished.Reads as finished
-use Rattle.columns.proofs.join.Reads as join
-use Rattle.columns.proofs.day_change.Reads as day-change
+use Rattle.answers.proofs.join.Reads as join
+use Rattle.days.proofs.day_change.Reads as day-change
 use Rattle.parsing.proofs.begin.Reads as begin
 use Rattle.parsing.proofs.read.Reads as read
 use Rattle.parsing.proofs.close.Reads as close
@@ -56,7 +56,7 @@ use Rattle.sagivelume.proofs.sagivelume_finished.Reads as finished-told
 use Rattle.sagivelume.proofs.sagivelume_join.Reads as join-told
 use Rattle.sagivelume.proofs.sagivelume_day_change.Reads as day-change-told
 
--- Of the parameters of a call.
+-- The second, the third and the fourth parameter of a call.
 abbrev second : {A B C : Type 0} → A × (B × C) → B
 second e = e .1 .0
 

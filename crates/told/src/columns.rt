@@ -99,10 +99,10 @@ pub fn of_stopped(s: Stopped) -> ToldRanges
         } => ToldRanges {
             number: crate::TAKEN,
             place: crate::NO_PLACE,
-            outer_low: node::low_of(outer),
-            outer_high: node::high_of(outer),
-            inner_low: node::low_of(inner),
-            inner_high: node::high_of(inner),
+            outer_low: words::low_of(outer),
+            outer_high: words::high_of(outer),
+            inner_low: words::low_of(inner),
+            inner_high: words::high_of(inner),
             count,
         },
         Stopped::Refused(why) => ToldRanges {

@@ -1,7 +1,4 @@
--- What the proofs of examining and of turning back rest on, in reading order.
-pub mod Answers
-pub mod Examining
+-- What the proofs of turning back rest on, in reading order.
 pub mod Writing
-pub mod AtRoot
 pub mod AllWritten
 pub mod TurningBack

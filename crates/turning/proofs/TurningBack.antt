@@ -30,9 +30,10 @@ use Rattle.om3.proofs.Examined.{examine-sound}
 use Rattle.sizes.proofs.TableChecks as checked
 use Rattle.node.specs.declared.Root.{Root}
 use Rattle.node.specs.Steps.{rootOf}
-use Rattle.turning.specs.declared.Verdict.{Verdict}
-use Rattle.turning.specs.Turning.{checkOf, Written, TurnedBack}
-use Rattle.turning.proofs.AtRoot.{root-unsound, root-reached}
+use Rattle.examining.specs.declared.Verdict.{Verdict}
+use Rattle.examining.specs.Examining.{checkOf}
+use Rattle.turning.specs.Turning.{Written, TurnedBack}
+use Rattle.examining.proofs.AtRoot.{root-unsound, root-reached}
 use Rattle.turning.proofs.AllWritten.{all-written}
 
 module _ (n : ℕ) (cs : List ℤ) (ks : List ℕ) (out : List ℤ) where

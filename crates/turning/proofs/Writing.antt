@@ -23,8 +23,8 @@ use Rattle.om3.proofs.NodeLists.{every-append}
 use Rattle.node.specs.declared.Halves.{Halves}
 use Rattle.node.specs.Steps.{halvesOf, pairOf}
 use Rattle.turning.specs.Turning.{withHours, Written, PairWritten}
-use Rattle.turning.proofs.Answers.{Stepped, stepped, not-stepped}
-use Rattle.turning.proofs.Examining.{one-level, first-index, code-index}
+use Rattle.examining.proofs.Answers.{Stepped, stepped, not-stepped}
+use Rattle.examining.proofs.Examining.{one-level, first-index, code-index}
 
 module _ (cs : List ℤ) (ks : List ℕ) (i f w : ℕ) (range : Range) (out : List ℤ) where
   abbrev T : Table

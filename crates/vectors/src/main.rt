@@ -16,37 +16,37 @@
 // Makes a table and writes the answer.
 fn show_make(n: usize, readings: &[i32], coefficients: &mut [i32], codes: &mut [u8]) {
     let told = sagivelume::sagivelume_make(n, readings, coefficients, codes);
-    lines::print_head(told.number, told.place);
-    lines::print_grams(coefficients);
-    lines::print_bytes(codes);
-    lines::print_end();
+    vector_lines::print_head(told.number, told.place);
+    vector_lines::print_grams(coefficients);
+    vector_lines::print_bytes(codes);
+    vector_lines::print_end();
 }
 
 // Turns a table back and writes the answer.
 fn show_turn_back(n: usize, coefficients: &[i32], codes: &[u8], hours: &mut [i32]) {
     let told = sagivelume::sagivelume_turn_back(n, coefficients, codes, hours);
-    lines::print_head(told.number, told.place);
-    lines::print_grams(hours);
-    lines::print_end();
+    vector_lines::print_head(told.number, told.place);
+    vector_lines::print_grams(hours);
+    vector_lines::print_end();
 }
 
 // Finds a level and writes the answer.
 fn show_level(n: usize, j: usize, coefficients: &[i32]) {
     let stretch = sagivelume::sagivelume_level(n, j, coefficients);
-    lines::print_head(stretch.start, stretch.length);
-    lines::print_end();
+    vector_lines::print_head(stretch.start, stretch.length);
+    vector_lines::print_end();
 }
 
 // A call of making, whose buffers begin at `at`. Tells where the next call begins.
 fn answer_make(text: &[u8], at: usize, n: usize) -> usize {
-    let mut readings = lines::no_grams();
-    let first = lines::lend_grams(text, at, &mut readings);
+    let mut readings = vector_lines::no_grams();
+    let first = vector_lines::lend_grams(text, at, &mut readings);
     let r = first.length;
-    let mut coefficients = lines::no_grams();
-    let second = lines::lend_grams(text, first.next, &mut coefficients);
+    let mut coefficients = vector_lines::no_grams();
+    let second = vector_lines::lend_grams(text, first.next, &mut coefficients);
     let c = second.length;
-    let mut codes = lines::no_codes();
-    let third = lines::lend_bytes(text, second.next, &mut codes);
+    let mut codes = vector_lines::no_codes();
+    let third = vector_lines::lend_bytes(text, second.next, &mut codes);
     let k = third.length;
     show_make(n, &readings[..r], &mut coefficients[..c], &mut codes[..k]);
     third.next
@@ -54,14 +54,14 @@ fn answer_make(text: &[u8], at: usize, n: usize) -> usize {
 
 // A call of turning back, whose buffers begin at `at`. Tells where the next call begins.
 fn answer_turn_back(text: &[u8], at: usize, n: usize) -> usize {
-    let mut coefficients = lines::no_grams();
-    let first = lines::lend_grams(text, at, &mut coefficients);
+    let mut coefficients = vector_lines::no_grams();
+    let first = vector_lines::lend_grams(text, at, &mut coefficients);
     let c = first.length;
-    let mut codes = lines::no_codes();
-    let second = lines::lend_bytes(text, first.next, &mut codes);
+    let mut codes = vector_lines::no_codes();
+    let second = vector_lines::lend_bytes(text, first.next, &mut codes);
     let k = second.length;
-    let mut hours = lines::no_grams();
-    let third = lines::lend_grams(text, second.next, &mut hours);
+    let mut hours = vector_lines::no_grams();
+    let third = vector_lines::lend_grams(text, second.next, &mut hours);
     let h = third.length;
     show_turn_back(n, &coefficients[..c], &codes[..k], &mut hours[..h]);
     third.next
@@ -69,10 +69,10 @@ fn answer_turn_back(text: &[u8], at: usize, n: usize) -> usize {
 
 // A call of a level, whose number begins at `at`. Tells where the next call begins.
 fn answer_level(text: &[u8], at: usize, n: usize) -> usize {
-    let level = lines::number_at(text, at);
+    let level = vector_lines::number_at(text, at);
     let j = level.size as usize;
-    let mut coefficients = lines::no_grams();
-    let only = lines::lend_grams(text, level.next, &mut coefficients);
+    let mut coefficients = vector_lines::no_grams();
+    let only = vector_lines::lend_grams(text, level.next, &mut coefficients);
     let c = only.length;
     show_level(n, j, &coefficients[..c]);
     only.next
@@ -81,8 +81,8 @@ fn answer_level(text: &[u8], at: usize, n: usize) -> usize {
 // Answers the call that begins at `at`, and tells where the next one begins. Two numbers that begin no call are
 // passed over.
 fn answer(text: &[u8], at: usize) -> usize {
-    let call = lines::number_at(text, at);
-    let hours = lines::number_at(text, call.next);
+    let call = vector_lines::number_at(text, at);
+    let hours = vector_lines::number_at(text, call.next);
     let n = hours.size as usize;
     let what = call.size;
     if what == 1 {
@@ -110,7 +110,7 @@ fn answer_all(text: &[u8]) {
 }
 
 fn main() {
-    let mut text = lines::no_text();
+    let mut text = vector_lines::no_text();
     let n = io::read_full(0, &mut text);
     answer_all(&text[..n]);
 }

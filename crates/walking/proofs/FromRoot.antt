@@ -21,8 +21,8 @@ use Rattle.node.proofs.Located.{root-located}
 use Rattle.om3.proofs.BelowOpened.{visited-root}
 use Rattle.node.specs.declared.Root.{Root}
 use Rattle.node.specs.Steps.{rootOf}
-use Rattle.turning.proofs.Answers.{Rooted, rooted, not-rooted}
-use Rattle.turning.proofs.AtRoot.{root-readings, root-reached}
+use Rattle.examining.proofs.Answers.{Rooted, rooted, not-rooted}
+use Rattle.examining.proofs.AtRoot.{root-readings, root-reached}
 use Rattle.walking.specs.Nodes.{At, Below}
 use Rattle.walking.specs.Seen.{seenOf, tableSeen}
 use Rattle.walking.specs.Visiting.{VisitedFrom, TableVisited}

@@ -22,9 +22,9 @@ use Rattle.om3.proofs.Reached.{reached-left, reached-right}
 use Rattle.om3.proofs.SoundCodes.{coded}
 use Rattle.node.specs.declared.Halves.{Halves}
 use Rattle.node.specs.Steps.{halvesOf}
-use Rattle.turning.specs.Turning.{pairAt}
-use Rattle.turning.proofs.Answers.{stepped}
-use Rattle.turning.proofs.Examining.{code-index, sound-pair, sound-node, left-readings, right-readings}
+use Rattle.examining.specs.Examining.{pairAt}
+use Rattle.examining.proofs.Answers.{stepped}
+use Rattle.examining.proofs.Examining.{code-index, sound-pair, sound-node, left-readings, right-readings}
 use Rattle.walking.specs.Nodes.{At}
 use Rattle.walking.specs.Visiting.{halvesAt, SteppedDown}
 use Rattle.walking.specs.declared.Reached.{Reached}

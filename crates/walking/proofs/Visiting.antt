@@ -22,7 +22,7 @@ use Rattle.om3.proofs.Examined.{in-order-append}
 use Rattle.om3.proofs.BelowOpened.{visited-left, visited-right, opened-kept, unopened-kept, outer-kept, outer-end}
 use Rattle.om3.proofs.BelowOpened.{inner-kept, inner-end, range-append}
 use Rattle.node.specs.declared.Halves.{Halves}
-use Rattle.turning.proofs.Answers.{Stepped, stepped, not-stepped}
+use Rattle.examining.proofs.Answers.{Stepped, stepped, not-stepped}
 use Rattle.walking.specs.Nodes.{At, Below, leftReached, rightReached, touchesOf, insideOf, openedOf}
 use Rattle.walking.specs.Seen.{unopenedOf, bothSeen, seenOf}
 use Rattle.walking.specs.Visiting.{SteppedDown, StopsAt, Visits, VisitedFrom}

@@ -26,7 +26,7 @@ use Rattle.om3.proofs.Nodes.{width-half, start-hour}
 use Rattle.om3.proofs.Intervals.{width-some}
 use Rattle.node.proofs.Located.{above-hours}
 use Rattle.node.specs.declared.Halves.{Halves}
-use Rattle.turning.proofs.Answers.{Stepped, stepped, not-stepped}
+use Rattle.examining.proofs.Answers.{Stepped, stepped, not-stepped}
 use Rattle.walking.specs.Nodes.{At, Below, leftReached, rightReached}
 use Rattle.walking.specs.Visiting.{SteppedDown}
 use Rattle.walking.specs.Walking.{takesLeft, towards, Walks, Small, WalkedFrom}

@@ -94,7 +94,7 @@ fn step(
     ensures { λ r. ⌜ SteppedFrom n (now (coefficients .entry)) (now (codes .entry)) i h pair range r ⌝ }
 {
     if pair {
-        return turning::pair_halves(n, codes, h, range);
+        return examining::pair_halves(n, codes, h, range);
     }
     // The details of a node stand at the numbers of its halves.
     let left_number = 2 * i.0;
@@ -260,7 +260,7 @@ pub fn walk(
     Walked::Came {
         reading: Reading {
             hour,
-            grams: node::low_of(range),
+            grams: words::low_of(range),
         },
         levels,
     }

@@ -1,6 +1,6 @@
 -- How far the numbers of a range go, as contracts ask and promise it. Assumes nothing.
 --
---   Readings r   a range is one of readings: low ≤ high, and both are readings; an empty one has nothing to hold to
+--   Readings r   a range is one of readings: low ≤ high, and both are readings; nothing is asked of an empty one
 use lib.IntN.{pos, negℤ}
 use lib.Signed.{_≤ℤ_}
 use Rattle.words.specs.Constants.{largestReading}

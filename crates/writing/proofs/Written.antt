@@ -26,8 +26,8 @@ use Rattle.om3.proofs.Examined.{examine-sound}
 use Rattle.om3.proofs.Threes.{sound-threes}
 use Rattle.sizes.proofs.TableChecks as checked
 use Rattle.packing.specs.Packing.{EachInThree}
-use Rattle.turning.specs.declared.Verdict.{Verdict}
-use Rattle.turning.specs.Turning.{checkOf}
+use Rattle.examining.specs.declared.Verdict.{Verdict}
+use Rattle.examining.specs.Examining.{checkOf}
 use Rattle.writing.specs.Writing.{Ready, RecordWritten}
 
 module _ (n : ℕ) (cs : List ℤ) (ks out : List ℕ) where

@@ -5,8 +5,8 @@ use Rattle.om3.specs.Table.{lent}
 use Rattle.om3.specs.Checks.{passes}
 use Rattle.sizes.specs.Lent.{TableLent}
 use Rattle.om3.proofs.Making.{good-some}
-use Rattle.columns.specs.Drawing.{lentCheck}
-use Rattle.columns.proofs.Checking as checking
+use Rattle.sizes.specs.Lent.{lentCheck}
+use Rattle.sizes.proofs.Lent as checking
 use Rattle.columns.proofs.Calls as laws
 use Rattle.columns.proofs.stopped.Statement.{statement}
 use Rattle.columns.proofs.stopped.Tie as tie
@@ -22,7 +22,7 @@ passed c =
 
 table : (c : tie.After-enum-told) →
     (let a = c .before .before .before .before .args in TableLent (a .n) (a .coefficients .now) (a .codes .now))
-table c = checking.table-lent _ _ _ (passed c)
+table c = checking.checked-lent _ _ _ (passed c)
 
 check-lent-requires : tie.Need-check-lent-requires
 check-lent-requires c κs = search needs

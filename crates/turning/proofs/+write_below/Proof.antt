@@ -18,7 +18,7 @@ use Rattle.turning.proofs.+write_below.Lts-write_below as lts
 use Rattle.turning.proofs.+write_below.{statement}
 use Rattle.turning.proofs.+write_below.Tie.{close}
 use Rattle.turning.proofs.write_pair.Reads as write-pair-reads
-use Rattle.turning.proofs.Examining.{left-readings, right-readings}
+use Rattle.examining.proofs.Examining.{left-readings, right-readings}
 use Rattle.turning.proofs.Writing as laws
 
 abbrev hoursOf : Measures 3 kinds.ps ℕ

@@ -17,7 +17,7 @@ use Rattle.sizes.specs.Lent.{Enough}
 use Rattle.sizes.proofs.TableChecks.{enough}
 use Rattle.node.specs.declared.Root.{Root}
 use Rattle.node.specs.Steps.{rootOf}
-use Rattle.turning.proofs.AtRoot.{root-read, root-readings}
+use Rattle.examining.proofs.AtRoot.{root-read, root-readings}
 use Rattle.turning.proofs.TurningBack as laws
 use Rattle.turning.proofs.turn_back.Statement.{statement}
 use Rattle.turning.proofs.turn_back.Tie as tie

@@ -1,5 +1,5 @@
--- `ask` meets its contract: a walk of its MIR, by hand. The view is taken apart, and `opening::ask` is called on its
--- bytes, its P and the place. All that the proof knows of `opening::ask` is that it meets its contract.
+-- `ask` meets its contract: step by step over its MIR, by hand. The view is taken apart, and `opening::ask` is called
+-- on its bytes, its P and the place. All that the proof knows of `opening::ask` is that it meets its contract.
 -- A view is Copy: what it owns is had twice. One copy is kept whole for the exit; of the other what the bytes own goes
 -- to the callee, beside the lifetime's token, which comes back. Assumes nothing.
 use mathlib.Core.Path.{_≡_, refl}

@@ -1,5 +1,5 @@
--- `ask_once` meets its contract: a walk of its MIR, by hand. The view that `open` returns is held in a local and passed
--- to `ask`. All that the proof knows of the two is that each meets its contract.
+-- `ask_once` meets its contract: step by step over its MIR, by hand. The view that `open` returns is held in a local
+-- and passed to `ask`. All that the proof knows of the two is that each meets its contract.
 -- The machine value that `open` returns is stored and passed on as it is. In a local MIR erases the lifetime of the
 -- struct's type, so the value is shown to have the type at `erased`: what a view owns does not say the lifetime's name.
 -- Assumes nothing.

@@ -1,5 +1,5 @@
--- `open` meets its contract: a walk of its MIR, by hand. `view_places` is called on the bytes, and a view is made of
--- them and of its result. All that the proof knows of `view_places` is that it meets its contract.
+-- `open` meets its contract: step by step over its MIR, by hand. `view_places` is called on the bytes, and a view is
+-- made of them and of its result. All that the proof knows of `view_places` is that it meets its contract.
 -- A `&[u8]` is Copy, so what it owns is had as often as it is needed: for the callee, for the bytes at exit, and inside
 -- the view, beside the facts of P. Assumes nothing.
 use mathlib.Core.Path.{_≡_, refl, ap}

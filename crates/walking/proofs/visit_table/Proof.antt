@@ -8,7 +8,7 @@ use Rattle.om3.proofs.Levels.{2≤P, P-even}
 use Rattle.om3.proofs.Making.{good-some}
 use Rattle.node.specs.declared.Root.{Root}
 use Rattle.node.specs.Steps.{rootOf}
-use Rattle.turning.proofs.AtRoot.{root-read}
+use Rattle.examining.proofs.AtRoot.{root-read}
 use Rattle.walking.proofs.FromRoot as laws
 use Rattle.walking.proofs.visit_table.Statement.{statement}
 use Rattle.walking.proofs.visit_table.Tie as tie

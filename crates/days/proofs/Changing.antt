@@ -1,0 +1,96 @@
+-- The checks of the day change, in the parts in which the code makes them, and each of its answers. Assumes nothing.
+use mathlib.Core.Path.{_≡_, refl, sym, _∙_}
+use mathlib.Core.List.{List, [], _∷_}
+use Prim.Native.Nat.{ℕ, _*_, _≤_, _<_}
+use lib.IntN.{ℤ}
+use borrow.Author.Tests.{le-leb, lt-leb}
+use Rattle.words.specs.Constants.{dayHours}
+use Rattle.words.specs.declared.Answer.{Answer}
+use Rattle.words.specs.declared.Column.{Column}
+use Rattle.words.specs.declared.DayChange.{DayChange}
+use Rattle.words.specs.declared.Finished.{Finished}
+use Rattle.words.specs.declared.Refusal.{Refusal}
+use Rattle.words.specs.declared.Refusal.the-variants.{BadWindow}
+use Rattle.words.specs.declared.Taking.{Taking}
+use Rattle.om3.specs.Series.{levels}
+use Rattle.om3.specs.Table.{Table, lent}
+use Rattle.om3.specs.Checks.{Check, passes, refuses, andThen, inOrder, answerBy}
+use Rattle.om3.specs.Refusals.{checkHours, checkRoom, tableShort, checkDay}
+use Rattle.om3.specs.Stopped.{examineColumn}
+use Rattle.om3.specs.Finished.{answer, finishedNodes}
+use Rattle.om3.specs.Days.{day, changeOf, dayChange}
+use Rattle.om3.proofs.Examined.{then-passes, in-order-append}
+use Rattle.om3.proofs.Taken.{refused-refuses}
+use Rattle.sizes.specs.Lent.{lentCheck}
+use Rattle.columns.specs.Drawing.{finishedAnswer, FinishedOver}
+use Rattle.columns.proofs.Finishing.{not-answered}
+
+-- The day's checks.
+module _ (n : ℕ) (t : Table) (d : ℕ) (four : Check) where
+  abbrev day-whole : Check
+  day-whole = inOrder (checkHours n ∷ checkRoom (tableShort n t) ∷ checkDay n d ∷ four ∷ [])
+
+  day-parted : day-whole ≡ andThen (lentCheck n t) (andThen (checkDay n d) four)
+  unfolding inOrder
+  day-parted =
+      in-order-append (checkHours n ∷ checkRoom (tableShort n t) ∷ []) (checkDay n d ∷ four ∷ [])
+      ∙ rw (then-passes four)
+
+  pub checks-lent : (why : Refusal) → Taking.Refused why ≡ answerBy Taking.Refused (lentCheck n t) Taking.Taken
+      → day-whole ≡ refuses why
+  checks-lent why e = day-parted ∙ rw (refused-refuses (lentCheck n t) why e)
+
+  module _ (lends : lentCheck n t ≡ passes) where
+    pub checks-late : n ≤ dayHours * d → day-whole ≡ refuses BadWindow
+    checks-late h = day-parted ∙ rw (lends, le-leb n (dayHours * d) h)
+
+    pub checks-there : dayHours * d < n → day-whole ≡ four
+    checks-there h = day-parted ∙ rw (lends, lt-leb n (dayHours * d) h)
+
+-- What the answer of a finished column says of its checks.
+module _ (n : ℕ) (t : Table) (x : Column) where
+  refused-by : (c : Check) (why : Refusal) → Finished.Refused why ≡ answerBy Finished.Refused c (finishedAnswer n t x)
+      → c ≡ refuses why
+  refused-by passes why g = absurd (not-answered g)
+  refused-by (refuses r) why g = cc
+
+  answered-by : (c : Check) (a : Answer) (m : ℕ)
+      → Finished.Answered a m ≡ answerBy Finished.Refused c (finishedAnswer n t x)
+      → (c ≡ passes) × (a ≡ answer (levels n) t x)
+  answered-by passes a m g = (refl, cc)
+  answered-by (refuses r) a m g = absurd (not-answered (sym g))
+
+-- The change of a day.
+module _ (n : ℕ) (cs : List ℤ) (ks : List ℕ) (d : ℕ) where
+  abbrev table : Table
+  table = lent cs ks
+
+  abbrev examined-day : Check
+  examined-day = examineColumn (levels n) table (day n d) n (finishedNodes (levels n) table (day n d))
+
+  pub day-lent : (why : Refusal) → Taking.Refused why ≡ answerBy Taking.Refused (lentCheck n table) Taking.Taken
+      → DayChange.Refused why ≡ dayChange n table d
+  unfolding dayChange
+  day-lent why e = rw (checks-lent n table d examined-day why e)
+
+  module _ (lends : lentCheck n table ≡ passes) where
+    pub day-late : n ≤ dayHours * d → DayChange.Refused BadWindow ≡ dayChange n table d
+    unfolding dayChange
+    day-late h = rw (checks-late n table d examined-day lends h)
+
+    module _ (there : dayHours * d < n) (x : Column) (e : x ≡ day n d) where
+      pub day-refused : (why : Refusal) → FinishedOver n cs ks x (Finished.Refused why)
+          → DayChange.Refused why ≡ dayChange n table d
+      unfolding dayChange
+      day-refused why F =
+          rw (
+            checks-there n table d examined-day lends there,
+            refused-by n table (day n d) examined-day why (rw e at (F .answer)),
+          )
+
+      pub day-answered : (a : Answer) (m : ℕ) → FinishedOver n cs ks x (Finished.Answered a m)
+          → changeOf a ≡ dayChange n table d
+      unfolding dayChange
+      day-answered a m F =
+          let g = answered-by n table (day n d) examined-day a m (rw e at (F .answer)) in
+          rw (checks-there n table d examined-day lends there, g .0, g .1)

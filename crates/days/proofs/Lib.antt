@@ -1,0 +1,3 @@
+-- What the proofs of the days rest on, in reading order.
+pub mod Daily
+pub mod Changing

@@ -1,0 +1,35 @@
+-- `change_of` subtracts where there is a reading; both grams are small. Assumes nothing.
+use mathlib.Core.Path.{ap}
+use borrow.Author.Needs.{needs}
+use Rattle.words.specs.declared.Answer.{Answer}
+use Rattle.words.specs.declared.DayChange.{DayChange}
+use Rattle.columns.specs.Drawing.{SmallAnswer}
+use Rattle.days.proofs.Daily as laws
+use Rattle.days.proofs.change_of.Statement.{statement}
+use Rattle.days.proofs.change_of.Tie as tie
+
+-- Both readings are small.
+held : (c : tie.After-answer) → SmallAnswer (Answer.Found (c .answer .given .0 .0))
+held c = rw (c .answer .given .1) at (c .before .before .pre)
+
+enum-told : tie.Need-enum-told
+enum-told c = search needs
+
+enum-known-answer : tie.Need-enum-known-answer
+enum-known-answer c = search needs
+
+sub-grams : tie.Need-sub-grams
+sub-grams c =
+    let c3 = c .before .before .before in
+    laws.change-fits (c3 .answer .given .0 .0) (held c3)
+
+returns : tie.Need-returns
+returns c = search needs
+
+returns-2 : tie.Need-returns-2
+returns-2 c =
+    let c3 = c .before .before .before in
+    rw (c3 .answer .given .1) (ap DayChange.Grams (laws.change-is (c3 .answer .given .0 .0) (held c3)))
+
+pub change-of-spec : {M : Type 1} → statement M
+change-of-spec = tie.close (tie.spec enum-told enum-known-answer sub-grams returns returns-2)

@@ -1,0 +1,41 @@
+-- `lend_grams` lends as much of the room as the length says, at most all of it, and the room keeps its length.
+-- Assumes nothing.
+use native.Mathlib.Omega.{arith}
+use borrow.Author.Needs.{needs}
+use Rattle.vector_lines.proofs.lend_grams.Statement.{statement}
+use Rattle.vector_lines.proofs.lend_grams.Tie as tie
+use Rattle.vector_lines.proofs.Within.{within}
+
+number-at-requires : tie.Need-number-at-requires
+number-at-requires c κs = search needs
+
+length-of-requires : tie.Need-length-of-requires
+length-of-requires c κs = search needs
+
+slice-relend-prefix-fill-grams : tie.Need-slice-relend-prefix-fill-grams
+slice-relend-prefix-fill-grams c = search needs
+
+slice-aggregate-fill-grams : tie.Need-slice-aggregate-fill-grams
+slice-aggregate-fill-grams c = within _ _ (c .before .length-of .ensures) .1
+
+fill-grams-requires : tie.Need-fill-grams-requires
+fill-grams-requires c κs = search needs
+
+same-length : tie.Need-same-length
+same-length c = search needs
+
+returns : tie.Need-returns
+returns c =
+    within _ _ (omega (arith, same-length c, c .before .before .before .length-of .ensures))
+
+pub lend-grams-spec : {M : Type 1} → statement M
+lend-grams-spec =
+    tie.close
+    (tie.spec
+    number-at-requires
+    length-of-requires
+    slice-relend-prefix-fill-grams
+    slice-aggregate-fill-grams
+    fill-grams-requires
+    same-length
+    returns)

@@ -1,0 +1,13 @@
+-- `no_text` is as many zeros as it says, by the law of a repeated list: counting them one by one would take long.
+-- Assumes nothing.
+use mathlib.Core.Path.{sym}
+use Prim.Native.Nat.{ℕ}
+use lib.ListN.{length-replicate}
+use Rattle.vector_lines.proofs.no_text.Statement.{statement}
+use Rattle.vector_lines.proofs.no_text.Tie as tie
+
+returns : tie.Need-returns
+returns c = sym (length-replicate {0} {A = ℕ} 1048576 0)
+
+pub no-text-spec : {M : Type 1} → statement M
+no-text-spec = tie.close (tie.spec returns)

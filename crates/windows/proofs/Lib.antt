@@ -1,0 +1,2 @@
+-- What the proofs of the windows rest on.
+pub mod Windows

@@ -1,0 +1,48 @@
+-- `edge` computes the definition; the numbers are small. Assumes nothing.
+use Prim.Native.Nat.{_+_, _-_, _*_, _≤_}
+use native.Mathlib.Nat.{mul-le-mul, div-le-self}
+use native.Mathlib.Omega.{arith}
+use Rattle.words.specs.Constants.{largestHours, mostColumns}
+use borrow.Author.Needs.{needs}
+use Rattle.windows.proofs.edge.Statement.{statement}
+use Rattle.windows.proofs.edge.Tie as tie
+
+-- What passes before the edge is no large number.
+passed : (c : tie.After-struct-known2) →
+    (let a = c .before .before .args in a .k * (a .b .0 - a .a .0) ≤ mostColumns * largestHours)
+passed c =
+    let start = c .before .before in
+    let a = start .args in
+    let p = start .pre in
+    let k≤ : a .k ≤ mostColumns = omega (arith, p .among, p .most) in
+    let l≤ : a .b .0 - a .a .0 ≤ largestHours = omega (arith, p .hours) in
+    mul-le-mul k≤ l≤
+
+sub-length : tie.Need-sub-length
+sub-length c = search needs
+
+mul-passed : tie.Need-mul-passed
+mul-passed c =
+    omega (arith, passed c)
+
+sub-cut : tie.Need-sub-cut
+sub-cut c = search needs
+
+add-cut : tie.Need-add-cut
+add-cut c = omega (arith, passed c, c .before .before .pre .most)
+
+div-cut : tie.Need-div-cut
+div-cut c = search needs
+
+add-hour : tie.Need-add-hour
+add-hour c =
+    let start = c .before .before .before in
+    let a = start .args in
+    let x = a .k * (a .b .0 - a .a .0) + (a .w - 1) in
+    omega (arith, passed (c .before), div-le-self x (a .w), start .pre .most, start .pre .hours, start .pre .ordered)
+
+returns : tie.Need-returns
+returns c = search needs
+
+pub edge-spec : {M : Type 1} → statement M
+edge-spec = tie.close (tie.spec sub-length mul-passed sub-cut add-cut div-cut add-hour returns)

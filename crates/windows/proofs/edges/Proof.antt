@@ -1,0 +1,29 @@
+-- `edges` makes check 1, and then checks 5 and 6 and both edges. Assumes nothing.
+use mathlib.Core.Path.{sym, _∙_}
+use borrow.Author.Needs.{needs}
+use Rattle.om3.proofs.Making.{good-some}
+use Rattle.windows.proofs.Windows as laws
+use Rattle.windows.proofs.edges.Statement.{statement}
+use Rattle.windows.proofs.edges.Tie as tie
+
+bad-hours-requires : tie.Need-bad-hours-requires
+bad-hours-requires c κs = search needs
+
+returns : tie.Need-returns
+returns c =
+    let a = c .before .before .args in
+    let bad = sym (c .before .bad-hours .ensures) ∙ c .if1 .taken in
+    laws.edges-bad-hours (a .n) (a .a .0) (a .b .0) (a .w) (a .k) bad
+
+column-of-requires : tie.Need-column-of-requires
+column-of-requires c κs = good-some _ (sym (c .before .bad-hours .ensures) ∙ c .if1 .left) .1
+
+returns-2 : tie.Need-returns-2
+returns-2 c =
+    let c2 = c .before .before in
+    let a = c2 .before .args in
+    let good = sym (c2 .bad-hours .ensures) ∙ c .before .if1 .left in
+    laws.edges-window (a .n) (a .a .0) (a .b .0) (a .w) (a .k) good _ (c .column-of .ensures)
+
+pub edges-spec : {M : Type 1} → statement M
+edges-spec = tie.close (tie.spec bad-hours-requires returns column-of-requires returns-2)
