@@ -6,6 +6,12 @@
 
 enum { N = 48, P = 64, BYTES = 7 + 3 * P + P / 2 };
 
+static void print_column(size_t column, struct sagivelume_told_answer answer) {
+    if (!answer.found) printf("%zu: no reading\n", column);
+    else printf("%zu: first %" PRId32 ", last %" PRId32 ", low %" PRId32 ", high %" PRId32 "\n",
+                column, answer.first, answer.last, answer.low, answer.high);
+}
+
 int main(void) {
     int32_t readings[N], coefficients[P];
     uint8_t codes[P / 2], record[BYTES];
@@ -32,9 +38,7 @@ int main(void) {
         struct sagivelume_told_finished drawn =
             sagivelume_finished(reloaded.hours, coefficients, P, codes, P / 2, 24, 48, 6, column);
         if (drawn.number) return 1;
-        if (!drawn.found) printf("%zu: no reading\n", column);
-        else printf("%zu: first %" PRId32 ", last %" PRId32 ", low %" PRId32 ", high %" PRId32 "\n",
-                    column, drawn.first, drawn.last, drawn.low, drawn.high);
+        print_column(column, drawn.answer);
     }
     struct sagivelume_told_change change = sagivelume_day_change(reloaded.hours, coefficients, P, codes, P / 2, 1);
     if (change.number || !change.found) return 1;

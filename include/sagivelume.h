@@ -126,17 +126,11 @@ struct sagivelume_told_answer {
     int32_t high;
 };
 
-/* A finished column: the fields of its answer, and how many nodes were visited and walked down. */
+/* A finished column: its answer, and how many nodes were visited and walked down. */
 struct sagivelume_told_finished {
     size_t number;
     size_t place;
-    size_t found;
-    size_t first_hour;
-    size_t last_hour;
-    int32_t first;
-    int32_t last;
-    int32_t low;
-    int32_t high;
+    struct sagivelume_told_answer answer;
     size_t count;
 };
 

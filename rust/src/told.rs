@@ -193,28 +193,20 @@ impl ToldAnswer {
     }
 }
 
-/// How a finished column ended, with the fields of its answer and its count.
+/// How a finished column ended, with its answer and its count.
 #[repr(C)]
 pub struct ToldFinished {
     number: usize,
     place: usize,
-    found: usize,
-    first_hour: usize,
-    last_hour: usize,
-    first: i32,
-    last: i32,
-    low: i32,
-    high: i32,
+    answer: ToldAnswer,
     count: usize,
 }
 
 impl ToldFinished {
     /// Answer and count, or the refusal.
     pub fn taken(self) -> Result<Finished, Refusal> {
-        let ToldFinished { number, place, found, first_hour, last_hour, first, last, low, high, count } =
-            self;
-        let answer = ToldAnswer { found, first_hour, last_hour, first, last, low, high }.answer();
-        Told { number, place }.taken().map(|()| Finished { answer, count })
+        let ToldFinished { number, place, answer, count } = self;
+        Told { number, place }.taken().map(|()| Finished { answer: answer.answer(), count })
     }
 }
 

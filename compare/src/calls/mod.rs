@@ -2,20 +2,6 @@
 //!
 //! A new call is a file here with its [`Call`], and its line in [`KINDS`].
 
-mod ask;
-mod ask_view;
-mod day_change;
-mod edges;
-mod finished;
-mod join;
-mod level;
-mod make;
-mod open;
-mod read_record;
-mod stopped;
-mod turn_back;
-mod write_record;
-
 use sagivelume::{Answer, Reading};
 
 use crate::compared::{compare, compare_one, drawn, Compared, Difference};
@@ -24,20 +10,6 @@ use crate::given::{field, Given, Head};
 use crate::numbers::Room;
 use crate::records::{hours_stated, HEADER};
 use crate::tally::Tally;
-
-pub use ask::Ask;
-pub use ask_view::AskView;
-pub use day_change::DayChange;
-pub use edges::Edges;
-pub use finished::FinishedColumn;
-pub use join::Join;
-pub use level::Level;
-pub use make::Make;
-pub use open::Open;
-pub use read_record::ReadRecord;
-pub use stopped::StoppedAt;
-pub use turn_back::TurnBack;
-pub use write_record::WriteRecord;
 
 /// One kind of call: its numbers and what its buffers hold before.
 pub trait Call: Sized {
@@ -157,22 +129,42 @@ impl Kind {
     }
 }
 
-/// Every kind of call. A new kind takes its line here.
-pub const KINDS: [Kind; 13] = [
-    Kind::of::<Make>(),
-    Kind::of::<TurnBack>(),
-    Kind::of::<Level>(),
-    Kind::of::<WriteRecord>(),
-    Kind::of::<ReadRecord>(),
-    Kind::of::<Open>(),
-    Kind::of::<Ask>(),
-    Kind::of::<AskView>(),
-    Kind::of::<Edges>(),
-    Kind::of::<StoppedAt>(),
-    Kind::of::<FinishedColumn>(),
-    Kind::of::<Join>(),
-    Kind::of::<DayChange>(),
-];
+/// The kinds of calls, each with its file, its type, and the function of the boundary that it calls.
+macro_rules! kinds {
+    ($($file:ident $kind:ident $called:ident)*) => {
+        $(
+            mod $file;
+            pub use $file::$kind;
+        )*
+
+        /// Every kind of call.
+        pub const KINDS: &[Kind] = &[$(Kind::of::<$kind>()),*];
+
+        #[cfg(test)]
+        const CALLED: &[&str] = &[$(stringify!($called)),*];
+
+        #[test]
+        fn lines_of_all_kinds_are_calls() {
+            $(tests::lines_are_calls::<$kind>();)*
+        }
+    };
+}
+
+kinds! {
+    make Make sagivelume_make
+    turn_back TurnBack sagivelume_turn_back
+    level Level sagivelume_level
+    write_record WriteRecord sagivelume_write_record
+    read_record ReadRecord sagivelume_read_record
+    open Open sagivelume_open_record
+    ask Ask sagivelume_ask
+    ask_view AskView sagivelume_ask
+    edges Edges sagivelume_edges
+    stopped StoppedAt sagivelume_stopped
+    finished FinishedColumn sagivelume_finished
+    join Join sagivelume_join
+    day_change DayChange sagivelume_day_change
+}
 
 #[cfg(test)]
 mod tests {
@@ -182,7 +174,7 @@ mod tests {
     use super::*;
 
     /// Every call is one that the second program takes or refuses, and the same seed draws the same calls.
-    fn lines_are_calls<C: Call>() {
+    pub fn lines_are_calls<C: Call>() {
         let drawn = |random: &mut Drawing| C::draw(random).line();
         let (mut random, mut again) = (Drawing::new(5), Drawing::new(5));
         for _ in 0..300 {
@@ -196,21 +188,26 @@ mod tests {
         }
     }
 
+    /// A call of the boundary that is left out here, or in the programs of the gate, does not go unnoticed.
     #[test]
-    fn lines_of_all_kinds_are_calls() {
-        lines_are_calls::<Make>();
-        lines_are_calls::<TurnBack>();
-        lines_are_calls::<Level>();
-        lines_are_calls::<WriteRecord>();
-        lines_are_calls::<ReadRecord>();
-        lines_are_calls::<Open>();
-        lines_are_calls::<Ask>();
-        lines_are_calls::<AskView>();
-        lines_are_calls::<Edges>();
-        lines_are_calls::<StoppedAt>();
-        lines_are_calls::<FinishedColumn>();
-        lines_are_calls::<Join>();
-        lines_are_calls::<DayChange>();
+    fn every_call_of_the_boundary_is_compared() {
+        let programs = [
+            include_str!("../../../crates/vectors/src/main.rt"),
+            include_str!("../../../crates/record_vectors/src/main.rt"),
+            include_str!("../../../crates/column_vectors/src/main.rt"),
+        ];
+        let boundary = include_str!("../../../crates/sagivelume/src/lib.rt");
+        let mut exported = 0;
+        for after in boundary.split("extern \"C\" fn ").skip(1) {
+            let (name, _) = after.split_once('(').expect("parameters");
+            assert!(CALLED.contains(&name), "no kind calls {name}");
+            let call = format!("sagivelume::{name}(");
+            assert!(programs.iter().any(|program| program.contains(&call)), "no vectors call {name}");
+            exported += 1;
+        }
+        let mut called = CALLED.to_vec();
+        called.dedup();
+        assert_eq!(called.len(), exported, "a kind calls what the boundary does not have");
     }
 
     #[test]

@@ -89,7 +89,7 @@ fn it_is_told_how_far_the_soak_is() {
 #[test]
 fn everything_is_drawn() {
     let without_edges = |kind| Kind { edges: || 0, soak_edges: |_, _, _| {}, ..kind };
-    let kinds: Vec<Kind> = KINDS.into_iter().map(without_edges).collect();
+    let kinds: Vec<Kind> = KINDS.iter().copied().map(without_edges).collect();
     let (sum, _) = soaked(&kinds, 3, 13 * 5_000, 2);
     for tally in sum.tallies() {
         for topic in TOPICS {

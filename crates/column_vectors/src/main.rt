@@ -17,8 +17,8 @@
 // column's first hour and the hour after its last; both ranges and the count; the count, and in a line of its own the
 // answer; found and the grams. Joining tells the answer alone.
 //
-// What the calls answer is stated and proved where they stand. As in `lines`, which reads and writes the numbers, the
-// contracts here say no more than safety needs.
+// What the calls answer is stated and proved where they stand. As in `vector_lines`, which reads and writes the
+// numbers, the contracts here say no more than safety needs.
 use told::columns::ToldAnswer;
 
 // A column of the input: the hours of the series, the window, its columns and the number of this one; and where the
@@ -132,15 +132,7 @@ fn show_finished(coefficients: &[i32], codes: &[u8], asked: Asked) {
     vector_lines::print_head(told.number, told.place);
     vector_lines::print_more(told.count);
     vector_lines::print_end();
-    show_answer(ToldAnswer {
-        found: told.found,
-        first_hour: told.first_hour,
-        last_hour: told.last_hour,
-        first: told.first,
-        last: told.last,
-        low: told.low,
-        high: told.high,
-    });
+    show_answer(told.answer);
 }
 
 // Asks for the change of a day and writes the answer.

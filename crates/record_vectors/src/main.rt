@@ -14,8 +14,8 @@
 // were written, the hours read, the hours and the places opened, the coefficient. Then comes the whole content of each
 // buffer that was lent to be written.
 //
-// What the calls answer is stated and proved where they stand. As in `lines`, which reads and writes the numbers, the
-// contracts here say no more than safety needs.
+// What the calls answer is stated and proved where they stand. As in `vector_lines`, which reads and writes the
+// numbers, the contracts here say no more than safety needs.
 use words::Asking;
 
 // Writes a record and writes the answer.

@@ -1,5 +1,5 @@
 -- What the calls of the boundary promise that write into lent buffers: what the calls they hand on to promise, with the
--- answer as a flat struct. Assumes nothing.
+-- answer as a struct. Assumes nothing.
 --
 --   MakeTold, TurnBackTold,   the contracts of `sagivelume_make`, `sagivelume_turn_back`,
 --   WriteTold, ReadTold       `sagivelume_write_record` and `sagivelume_read_record`

@@ -1,5 +1,5 @@
 // The boundary: the calls as C and Rust link them. Numbers pass as themselves, a slice as a pointer and then a length,
-// and an answer as a flat struct by value.
+// and an answer as a struct by value.
 use told::columns::ToldAnswer;
 use told::columns::ToldChange;
 use told::columns::ToldColumn;

@@ -73,7 +73,7 @@ window-columns : (a b w : ℕ) → 1 ≤ w → a ≤ b
     → flatMap columnHours (map (column a b w) (upFrom 0 w)) ≡ hoursFrom a (b - a)
 window-columns = om3.Windows.window-columns
 
--- What the boundary tells in flat structs is what document 01 says of each answer: its number, its place, its values.
+-- What the boundary tells in structs is what document 01 says of each answer: its number, its place, its values.
 told-says : EachSays
 told-says = told.Says.each-says
 

@@ -1,4 +1,4 @@
--- Each flat struct says what document 01 says of the answer that it tells: each case by computing it. Assumes nothing.
+-- Each struct says what document 01 says of the answer that it tells: each case by computing it. Assumes nothing.
 use mathlib.Core.Path.{_≡_, refl}
 use mathlib.Core.List.{List}
 use lib.IntN.{ℤ}

@@ -1,16 +1,14 @@
--- What the calls of columns tell at the boundary: their answers as flat structs, with the number and the place that
--- document 01 gives to each case (`saidOf..`) [forms 15], and 0 in every value of a refusal. Cited by the contracts of
--- this crate and of the boundary. Assumes nothing.
+-- What the calls of columns tell at the boundary: their answers as structs of numbers, with the number and the place
+-- that document 01 gives to each case (`saidOf..`) [forms 15], and 0 in every value of a refusal. Cited by the
+-- contracts of this crate and of the boundary. Assumes nothing.
 --
 --   edgesTold e      the first hour and the end of a column
 --   stoppedTold s    the outer and the inner range, each as its low and its high, and the count
 --   answerTold a     whether there is a reading, and first and last with their hours, low and high
---   withCount        an answer with a number, a place and a count beside it
 --   finishedTold f   a finished answer and its count
 --   changeTold c     whether the day has a reading, and the change in grams
 --   answerIn t       the answer that a caller hands in
 use mathlib.Core.Bool.{cond}
-use Prim.Native.Nat.{ℕ}
 use lib.Dec.{eqb}
 use lib.IntN.{pos}
 use Rattle.words.specs.Said.{Said, saidOfEdges, saidOfStopped, saidOfFinished, saidOfDayChange, lowOf, highOf}
@@ -80,25 +78,12 @@ answerTold (Answer.Found s) = record {
   high = s .high;
 }
 
--- The fields of an answer, with the number and the place that are told and the count.
-abbrev pub withCount : ℕ → ℕ → ToldAnswer → ℕ → ToldFinished
-withCount number place a count = record {
-  number = number;
-  place = place;
-  found = a .found;
-  «first_hour» = a .«first_hour»;
-  «last_hour» = a .«last_hour»;
-  first = a .first;
-  last = a .last;
-  low = a .low;
-  high = a .high;
-  count = count;
-}
-
 -- A refusal is told with the answer of no reading and with count 0.
 abbrev finishedSaid : Said → Finished → ToldFinished
-finishedSaid said (Finished.Answered answer count) = withCount (said .number) (said .place) (answerTold answer) count
-finishedSaid said (Finished.Refused why) = withCount (said .number) (said .place) (answerTold Answer.NoReading) 0
+finishedSaid said (Finished.Answered answer count) =
+    record { number = said .number; place = said .place; answer = answerTold answer; count = count }
+finishedSaid said (Finished.Refused why) =
+    record { number = said .number; place = said .place; answer = answerTold Answer.NoReading; count = 0 }
 
 abbrev pub finishedTold : Finished → ToldFinished
 finishedTold f = finishedSaid (saidOfFinished f) f

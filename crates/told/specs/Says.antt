@@ -1,4 +1,4 @@
--- What a flat struct says to whoever takes it, in document 01's numbers: the number, the place and, where the number
+-- What a struct says to whoever takes it, in document 01's numbers: the number, the place and, where the number
 -- is 0, the values. A law holds it against what document 01 says of the answer that the struct tells. [forms 15]
 -- Assumes nothing.
 --
@@ -71,19 +71,8 @@ valuesIn t =
     cond (eqb (t .found) 0) []
     (pos (t .«first_hour») ∷ t .first ∷ pos (t .«last_hour») ∷ t .last ∷ t .low ∷ t .high ∷ [])
 
-abbrev pub answerOf : ToldFinished → ToldAnswer
-answerOf t = record {
-  found = t .found;
-  «first_hour» = t .«first_hour»;
-  «last_hour» = t .«last_hour»;
-  first = t .first;
-  last = t .last;
-  low = t .low;
-  high = t .high;
-}
-
 abbrev pub finishedSays : ToldFinished → Said
-finishedSays t = said (t .number) (t .place) (valuesIn (answerOf t) ++ pos (t .count) ∷ [])
+finishedSays t = said (t .number) (t .place) (valuesIn (t .answer) ++ pos (t .count) ∷ [])
 
 abbrev pub changeSays : ToldChange → Said
 changeSays t = said (t .number) (t .place) (cond (eqb (t .found) 0) [] (t .grams ∷ []))

@@ -8,8 +8,7 @@ use words::Stopped;
 use words::Summary;
 use words::Timestamp;
 ghost use mathlib.Core.Path.{_≡_};
-ghost use Rattle.told.specs.Columns.{edgesTold, stoppedTold, answerTold, withCount, finishedTold};
-ghost use Rattle.told.specs.Columns.{changeTold, answerIn};
+ghost use Rattle.told.specs.Columns.{edgesTold, stoppedTold, answerTold, finishedTold, changeTold, answerIn};
 
 // The hours of a column: from `from` up to, not including, `upto`; 0 and 0 on a refusal.
 #[repr(C)]
@@ -45,18 +44,12 @@ pub struct ToldAnswer {
     pub high: i32,
 }
 
-// A finished column: the fields of its answer, and its count. No reading and count 0 on a refusal.
+// A finished column: its answer, and its count. No reading and count 0 on a refusal.
 #[repr(C)]
 pub struct ToldFinished {
     pub number: usize,
     pub place: usize,
-    pub found: usize,
-    pub first_hour: usize,
-    pub last_hour: usize,
-    pub first: i32,
-    pub last: i32,
-    pub low: i32,
-    pub high: i32,
+    pub answer: ToldAnswer,
     pub count: usize,
 }
 
@@ -142,37 +135,22 @@ pub fn of_answer(a: Answer) -> ToldAnswer
     }
 }
 
-// A finished answer with the number and the place that are told, and its count.
-fn with_count(number: usize, place: usize, answer: ToldAnswer, count: usize) -> ToldFinished
-    ensures { λ r. ⌜ r ≡ withCount number place answer count ⌝ }
-{
-    ToldFinished {
-        number,
-        place,
-        found: answer.found,
-        first_hour: answer.first_hour,
-        last_hour: answer.last_hour,
-        first: answer.first,
-        last: answer.last,
-        low: answer.low,
-        high: answer.high,
-        count,
-    }
-}
-
 pub fn of_finished(f: Finished) -> ToldFinished
     ensures { λ r. ⌜ r ≡ finishedTold f ⌝ }
 {
     match f {
-        Finished::Answered { answer, count } => {
-            with_count(crate::TAKEN, crate::NO_PLACE, of_answer(answer), count)
-        }
-        Finished::Refused(why) => with_count(
-            words::number_of(why),
-            words::place_of(why),
-            of_answer(Answer::NoReading),
-            0,
-        ),
+        Finished::Answered { answer, count } => ToldFinished {
+            number: crate::TAKEN,
+            place: crate::NO_PLACE,
+            answer: of_answer(answer),
+            count,
+        },
+        Finished::Refused(why) => ToldFinished {
+            number: words::number_of(why),
+            place: words::place_of(why),
+            answer: of_answer(Answer::NoReading),
+            count: 0,
+        },
     }
 }
 

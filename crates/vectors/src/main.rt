@@ -10,8 +10,8 @@
 // The answer of the first two is the number of the refusal, 0 if the call was taken, its place, and the whole content
 // of each buffer that was lent to be written; that of the third is the first place of the stretch and its length.
 //
-// What the calls answer is stated and proved where they stand. As in `lines`, which reads and writes the numbers, the
-// contracts here say no more than safety needs.
+// What the calls answer is stated and proved where they stand. As in `vector_lines`, which reads and writes the
+// numbers, the contracts here say no more than safety needs.
 
 // Makes a table and writes the answer.
 fn show_make(n: usize, readings: &[i32], coefficients: &mut [i32], codes: &mut [u8]) {

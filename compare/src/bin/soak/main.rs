@@ -44,7 +44,7 @@ fn main() -> ExitCode {
         return ExitCode::from(2);
     };
     let seed = asked.seed.unwrap_or_else(fresh_seed);
-    let soak = Soak { seed, calls: asked.calls.unwrap_or(CALLS), kinds: &KINDS };
+    let soak = Soak { seed, calls: asked.calls.unwrap_or(CALLS), kinds: KINDS };
     println!("seed {seed}, {} calls", soak.calls);
 
     let started = Instant::now();

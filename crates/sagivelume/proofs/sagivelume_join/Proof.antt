@@ -1,4 +1,4 @@
--- Both answers are taken in, joined, and the joined one made flat. Assumes nothing.
+-- Both answers are taken in, joined, and the joined one told in numbers. Assumes nothing.
 use mathlib.Core.Path.{ap, ap₂, _∙_}
 use borrow.Author.Needs.{needs}
 use Rattle.om3.specs.Joined.{joined}

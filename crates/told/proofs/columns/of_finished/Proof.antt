@@ -9,9 +9,6 @@ enum-known-f c = search needs
 of-answer-requires : tie.Need-of-answer-requires
 of-answer-requires c κs = search needs
 
-with-count-requires : tie.Need-with-count-requires
-with-count-requires c κs = search needs
-
 enum-known-f-2 : tie.Need-enum-known-f-2
 enum-known-f-2 c = search needs
 
@@ -24,21 +21,17 @@ place-of-requires c κs = search needs
 of-answer-requires-2 : tie.Need-of-answer-requires-2
 of-answer-requires-2 c κs = search needs
 
-with-count-requires-2 : tie.Need-with-count-requires-2
-with-count-requires-2 c κs = search needs
-
 returns : tie.Need-returns
-returns c = rw (c .before .before .before .f .given .1, c .with-count .ensures, c .before .of-answer .ensures)
+returns c = rw (c .before .before .f .given .1, c .of-answer .ensures)
 
 returns-2 : tie.Need-returns-2
 returns-2 c =
-    let c2 = c .before .before in
+    let c2 = c .before in
     rw (
       c2 .before .before .before .f2 .given .1,
-      c .with-count2 .ensures,
       c2 .before .number-of .ensures,
       c2 .place-of .ensures,
-      c .before .of-answer2 .ensures,
+      c .of-answer2 .ensures,
     )
 
 pub of-finished-spec : {M : Type 1} → statement M
@@ -47,11 +40,9 @@ of-finished-spec =
     (tie.spec
     enum-known-f
     of-answer-requires
-    with-count-requires
     enum-known-f-2
     number-of-requires
     place-of-requires
     of-answer-requires-2
-    with-count-requires-2
     returns
     returns-2)
