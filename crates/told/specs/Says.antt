@@ -4,7 +4,6 @@
 --
 --   said number place vs     the values count where the number is 0
 --   toldSays, bytesSay, ..   what a struct of each type says; `valuesIn`, of the values of a column's answer
---   answerOf t               the answer in a finished column's struct
 --   EachSays                 each says what document 01 says of its answer
 use mathlib.Core.Path.{_≡_}
 use mathlib.Core.Bool.{cond}
