@@ -1,0 +1,25 @@
+//! The calls on which the proved store is compared with the second program, and two ways of making them: a fixed
+//! number of each kind up to the first difference (the program `compare`), and a soak (the program `soak`).
+
+pub mod calls;
+pub mod command_line;
+pub mod compared;
+pub mod drawing;
+pub mod soak;
+pub mod tally;
+
+mod columns;
+mod drawn_records;
+mod given;
+mod lent;
+mod lent_tables;
+mod line;
+mod numbers;
+mod records;
+mod series;
+mod tables;
+
+use drawing::Topic;
+
+/// What notes are taken of while calls are drawn.
+pub const TOPICS: [&Topic; 4] = [&numbers::SORTS_OF_N, &series::FORMS, &tables::CHANGES, &drawn_records::CHANGES];

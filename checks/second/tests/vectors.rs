@@ -1,0 +1,249 @@
+//! The stored vectors, of `crates/vectors`, `crates/record_vectors`, `crates/column_vectors` and
+//! `crates/printer_vectors`, are what `second vectors` writes.
+
+use std::collections::{BTreeMap, BTreeSet};
+
+use second::vectors::{columns, printer, records, tables, written, Vector};
+use second::{print, stopped, turn_back, Column, Shape};
+
+/// The programs that read them have room for so many bytes.
+const MOST_BYTES: usize = 1_048_576;
+
+fn stored(program: &str, name: &str) -> Vec<u8> {
+    let path = format!("{}/../../crates/{program}/{name}", env!("CARGO_MANIFEST_DIR"));
+    std::fs::read(&path).unwrap_or_else(|error| panic!("{path}: {error}"))
+}
+
+#[test]
+fn the_stored_files_are_those_written() {
+    for files in written() {
+        let program = files.program;
+        assert!(files.input == stored(program, "stdin"), "{program}: write them again with `second vectors`");
+        assert!(files.output == stored(program, "stdout"), "{program}: write them again with `second vectors`");
+        assert!(files.input.len() <= MOST_BYTES, "{program}");
+    }
+}
+
+/// Whether these are the outcomes, each of at least so many calls.
+fn assert_outcomes(outcomes: &BTreeMap<String, usize>, calls: &[(&str, &[u8])], least: usize) {
+    let refused = |name: &str, number: &u8| format!("{name} refused {number}");
+    let all = calls.iter().flat_map(|(name, numbers)| numbers.iter().map(move |number| refused(name, number)));
+    let taken = calls.iter().map(|(name, _)| format!("{name} taken"));
+    let expected: BTreeSet<String> = all.chain(taken).collect();
+    let found: BTreeSet<String> = outcomes.keys().filter(|name| !name.starts_with("level")).cloned().collect();
+    assert_eq!(found, expected);
+    assert!(outcomes.values().all(|&count| count >= least), "{outcomes:?}");
+}
+
+#[test]
+fn every_outcome_of_every_call_is_there() {
+    let [of_tables, of_records, of_columns, of_printer] = written().map(|files| files.outcomes);
+    assert_outcomes(&of_tables, &[("make", &[1, 2, 3]), ("turn_back", &[1, 3, 4])], 10);
+    let opening = [1, 8, 9, 10, 11];
+    let calls: [(&str, &[u8]); 5] = [
+        ("write_record", &[1, 3, 4]),
+        ("read_record", &[1, 3, 4, 8, 9, 10, 11]),
+        ("open", &opening),
+        ("ask_view", &[8, 13]),
+        ("ask", &[1, 8, 9, 10, 11, 13]),
+    ];
+    assert_outcomes(&of_records, &calls, 8);
+    let calls: [(&str, &[u8]); 5] = [
+        ("edges", &[1, 5, 6]),
+        ("stopped", &[1, 3, 4, 5, 6, 7]),
+        ("finished", &[1, 3, 4, 5, 6]),
+        ("join", &[]),
+        ("day_change", &[1, 3, 4, 5]),
+    ];
+    assert_outcomes(&of_columns, &calls, 5);
+    assert_outcomes(&of_printer, &[("print", &[12, 1, 2, 5, 6])], 20);
+    let levels: Vec<&str> = of_tables.keys().map(String::as_str).filter(|name| name.starts_with("level")).collect();
+    assert_eq!(levels, ["level found", "level of length 0"]);
+}
+
+#[test]
+fn every_length_is_made_and_turned_back() {
+    let (mut made, mut turned_back) = (BTreeSet::new(), BTreeSet::new());
+    for call in tables::calls() {
+        match (&call, call.clone().answer().0.as_str()) {
+            (tables::Call::Make { n, .. }, "make taken") => made.insert(*n),
+            (tables::Call::TurnBack { n, .. }, "turn_back taken") => turned_back.insert(*n),
+            _ => false,
+        };
+    }
+    for n in [1, 2, 3, 5, 7, 8, 9, 15, 16, 17, 63, 64, 65, 1_000, 16_383, 16_384] {
+        assert!(made.contains(&n) && turned_back.contains(&n), "{n}");
+    }
+}
+
+/// The lengths of the records that are written and of those that are read.
+fn lengths_taken() -> (BTreeSet<usize>, BTreeSet<usize>) {
+    let (mut written, mut read) = (BTreeSet::new(), BTreeSet::new());
+    for call in records::calls() {
+        match (&call, call.clone().answer().0.as_str()) {
+            (records::Call::Write { record, .. }, "write_record taken") => written.insert(record.len()),
+            (records::Call::Read { record, .. }, "read_record taken") => read.insert(record.len()),
+            _ => false,
+        };
+    }
+    (written, read)
+}
+
+#[test]
+fn every_p_is_written_or_read() {
+    let (written, read) = lengths_taken();
+    for p in (1..=14).map(|l| 1_usize << l) {
+        let bytes = 7 + 3 * p + p / 2;
+        assert!(written.contains(&bytes) || read.contains(&bytes), "{p}");
+    }
+    for bytes in [14, 57_351] {
+        assert!(written.contains(&bytes) && read.contains(&bytes), "{bytes}");
+    }
+}
+
+#[test]
+fn a_record_written_is_the_record_read() {
+    let calls = records::calls();
+    let written: BTreeSet<Vec<u8>> = calls.iter().filter_map(written_exactly).collect();
+    let read = calls.into_iter().filter_map(|call| match &call {
+        records::Call::Read { record, .. } if call.clone().answer().0 == "read_record taken" => Some(record.clone()),
+        _ => None,
+    });
+    assert!(read.filter(|record| written.contains(record)).count() >= 40);
+}
+
+/// The record that a call writes, if it fills the buffer lent.
+fn written_exactly(call: &records::Call) -> Option<Vec<u8>> {
+    let records::Call::Write { n, coefficients, codes, record } = call else {
+        return None;
+    };
+    let mut record = record.clone();
+    let bytes = second::write_record(*n, coefficients, codes, &mut record).ok()?;
+    (bytes as usize == record.len()).then_some(record)
+}
+
+#[test]
+fn every_depth_is_stopped_at() {
+    let (mut taken, mut too_deep) = (BTreeSet::new(), BTreeSet::new());
+    for call in columns::calls() {
+        match (&call, call.clone().answer().0.as_str()) {
+            (columns::Call::Stopped { table, depth, .. }, "stopped taken") => taken.insert((table.n, *depth)),
+            (columns::Call::Stopped { table, depth, .. }, "stopped refused 7") => too_deep.insert((table.n, *depth)),
+            _ => false,
+        };
+    }
+    for n in [1, 2, 3, 5, 7, 8, 9, 16, 17, 40] {
+        let l = Shape::of(n).unwrap().l;
+        assert!((0..=l).all(|depth| taken.contains(&(n, depth))), "{n}");
+        assert!(too_deep.contains(&(n, l + 1)), "{n}");
+    }
+    assert!(taken.contains(&(16_384, 14)));
+}
+
+/// The damaged tables of which finished columns are asked: those refused at an opened node, those refused on a walk,
+/// and those taken, since nobody looks where they are unsound.
+#[test]
+fn damage_is_met_on_every_way() {
+    let (mut opened, mut walked, mut unseen) = (0, 0, 0);
+    for call in columns::calls() {
+        let columns::Call::Finished { table, column } = &call else {
+            continue;
+        };
+        let columns::Table { n, coefficients, codes } = table;
+        let mut hours = vec![0; 16_384];
+        let sound = turn_back(*n, coefficients, codes, &mut hours).is_ok();
+        let at_depth_l = |l: u64| stopped(*n, coefficients, codes, *column, l);
+        match call.clone().answer().0.as_str() {
+            "finished refused 4" if at_depth_l(Shape::of(*n).unwrap().l).is_err() => opened += 1,
+            "finished refused 4" => walked += 1,
+            "finished taken" if !sound => unseen += 1,
+            _ => {}
+        }
+    }
+    assert!(opened >= 50 && walked >= 20 && unseen >= 50, "{opened} {walked} {unseen}");
+}
+
+#[test]
+fn columns_without_an_hour_and_without_a_reading_are_there() {
+    let (mut no_hour, mut no_reading) = (0, 0);
+    for call in columns::calls() {
+        if let columns::Call::Finished { table, column } = &call {
+            let finished = second::finished(table.n, &table.coefficients, &table.codes, *column);
+            let more_columns_than_hours = |Column { a, b, w, .. }: Column| w > b - a;
+            match finished.map(|finished| (finished.answer, finished.count)) {
+                Ok((None, 0)) => no_hour += usize::from(more_columns_than_hours(*column)),
+                Ok((None, _)) => no_reading += 1,
+                _ => {}
+            }
+        }
+    }
+    assert!(no_hour >= 20 && no_reading >= 20, "{no_hour} {no_reading}");
+}
+
+/// Takes apart the text that the program of the printer reads, by what is told of it alone.
+fn taken_apart(mut text: &[u8]) -> Vec<(Vec<u8>, usize)> {
+    let mut calls = Vec::new();
+    while !text.is_empty() {
+        let end = text.iter().position(|&byte| byte == b'\n').expect("a line");
+        let head = std::str::from_utf8(&text[..end]).expect("two numbers");
+        let (length, piece) = head.split_once(' ').expect("two numbers");
+        let (length, piece): (usize, usize) = (length.parse().expect("a number"), piece.parse().expect("a number"));
+        let (input, after) = text[end + 1..].split_at(length);
+        calls.push((input.to_vec(), piece));
+        text = after;
+    }
+    calls
+}
+
+#[test]
+fn the_inputs_of_the_printer_can_be_taken_apart() {
+    let input = stored("printer_vectors", "stdin");
+    assert!(input.len() < 1_000_000);
+    let calls = taken_apart(&input);
+    let outputs: Vec<u8> = calls.iter().flat_map(|(input, _)| [&print(input)[..], b"\n"].concat()).collect();
+    assert!(outputs == stored("printer_vectors", "stdout"));
+    assert!(calls.iter().all(|&(_, piece)| piece > 0));
+}
+
+/// Every input but the long ones is handed over byte by byte, and every one that is short, with little printed for it,
+/// in pieces of each size; no input stands twice.
+#[test]
+fn the_inputs_of_the_printer_come_in_pieces() {
+    let mut pieces: BTreeMap<Vec<u8>, Vec<usize>> = BTreeMap::new();
+    for printer::Call { input, piece } in printer::calls() {
+        pieces.entry(input).or_default().push(piece);
+    }
+    assert_eq!(pieces.len(), printer::inputs().len());
+    for (input, sizes) in &pieces {
+        let short = input.len() < 200 && print(input).len() < 500;
+        let expected: Vec<usize> = [1, 2, 3, 7].into_iter().filter(|&size| size < input.len()).collect();
+        assert!(!short || sizes.starts_with(&expected), "{sizes:?}");
+        assert!(!short || sizes.iter().any(|&size| size >= input.len()), "{sizes:?}");
+        assert!(input.len() >= 20_000 || print(input).len() >= 20_000 || sizes.contains(&1), "{sizes:?}");
+    }
+    let long = |sizes: &Vec<usize>| if sizes.len() == 1 { Some(sizes[0]) } else { None };
+    let of_long: BTreeSet<usize> =
+        pieces.iter().filter(|(input, _)| input.len() > 30_000).filter_map(|(_, sizes)| long(sizes)).collect();
+    assert!(of_long.into_iter().eq([1, 7, 4_096, 1_000_000]));
+}
+
+/// The bytes of every sort of line, the numbers of lines and hours past 16 bits, and the longest series in the most
+/// columns are among the inputs of the printer.
+#[test]
+fn the_inputs_of_the_printer_reach_the_bounds() {
+    let inputs = printer::inputs();
+    let printed: Vec<String> = inputs.iter().map(|input| String::from_utf8(print(input)).unwrap()).collect();
+    assert!(printed.iter().filter(|text| text.lines().count() == 4_097).count() >= 3);
+    let refused: BTreeSet<&str> = printed.iter().map(|text| text.trim_end()).collect();
+    for text in ["refused 12 at 1", "refused 12 at 16386", "refused 12 at 16392", "refused 12 at 65538"] {
+        assert!(refused.contains(text), "{text}");
+    }
+    assert!(refused.contains("refused 2 at 16383") && refused.contains("refused 2 at 0"));
+    let lines = |input: &Vec<u8>| input.split(|&byte| byte == b'\n').map(<[u8]>::len).collect::<Vec<_>>();
+    let of_first: BTreeSet<usize> = inputs.iter().map(|input| lines(input)[0]).collect();
+    let of_hours: BTreeSet<usize> = inputs.iter().flat_map(|input| lines(input).split_off(1)).collect();
+    for length in (0..=9).chain(16..=20).chain([5_000]) {
+        assert!(of_hours.contains(&length), "{length}");
+        assert!(of_first.contains(&length), "{length}");
+    }
+}

@@ -1,0 +1,131 @@
+//! Writing a house record, reading it, and single coefficients out of it.
+//!
+//! Big-endian. Four bytes: length of what follows, 3 + 3P + P/2. One byte: version 1. Two bytes: n. Then P coefficients
+//! of three bytes each in two's complement, and P/2 codes of one byte each.
+
+use crate::linked;
+use crate::refusal::Refusal;
+
+/// Writes the record of a table and gives the number of its bytes, 7 + 3P + P/2.
+///
+/// Refusals in the order 1 (n is 0 or over 16,384), 3 (a buffer is shorter than needed: P coefficients, P/2 codes, the
+/// record's bytes), 4 (the node at its place is the first unsound one; 0 stands for the root values).
+///
+/// ```
+/// use sagivelume::Refusal;
+///
+/// let mut record = [77; 15];
+/// assert_eq!(sagivelume::write_record(2, &[-1, 500], &[0], &mut record)?, 14);
+/// assert_eq!(record, [0, 0, 0, 10, 1, 0, 2, 255, 255, 255, 0, 1, 244, 0, 77]);
+///
+/// let refused = sagivelume::write_record(2, &[5, 5], &[1], &mut record);
+/// assert_eq!(refused, Err(Refusal { number: 4, place: 1 }));
+/// # Ok::<(), Refusal>(())
+/// ```
+pub fn write_record(n: usize, coefficients: &[i32], codes: &[u8], bytes: &mut [u8]) -> Result<usize, Refusal> {
+    linked::write_record(n, coefficients, codes, bytes).taken()
+}
+
+/// Reads a record into a table, P coefficients and P/2 codes, and gives n. The bytes are the record itself, so that
+/// none may follow it.
+///
+/// Refusals in the order 8 (under 7 bytes), 9 (the version is not 1), 1 (n is 0 or over 16,384), 10 (the length field
+/// is not that of n), 8 (fewer bytes than stated), 11 (bytes after the record), 3 (a buffer is shorter than needed: P
+/// coefficients, P/2 codes), 4 (the node at its place is the first unsound one; 0 stands for the root values).
+///
+/// ```
+/// use sagivelume::Refusal;
+///
+/// let record = [0, 0, 0, 10, 1, 0, 2, 255, 255, 255, 0, 1, 244, 0];
+/// let (mut coefficients, mut codes) = ([0; 2], [77; 1]);
+/// assert_eq!(sagivelume::read_record(&record, &mut coefficients, &mut codes)?, 2);
+/// assert_eq!((coefficients, codes), ([-1, 500], [0]));
+///
+/// let cut_short = sagivelume::read_record(&record[..13], &mut coefficients, &mut codes);
+/// assert_eq!(cut_short, Err(Refusal { number: 8, place: 0 }));
+/// # Ok::<(), Refusal>(())
+/// ```
+pub fn read_record(bytes: &[u8], coefficients: &mut [i32], codes: &mut [u8]) -> Result<usize, Refusal> {
+    linked::read_record(bytes, coefficients, codes).taken()
+}
+
+/// Opens a record, to ask it for single coefficients without unpacking it. Whether its table is sound is not examined.
+///
+/// Refusals are those of reading except 3 and 4: in the order 8, 9, 1, 10, 8, 11.
+///
+/// ```
+/// use sagivelume::Refusal;
+///
+/// let record = sagivelume::open_record(&[0, 0, 0, 10, 1, 0, 1, 0, 0, 5, 255, 255, 254, 9])?;
+/// assert_eq!((record.hours(), record.places()), (1, 2));
+/// assert_eq!(record.coefficient(1), Ok(-2));
+///
+/// let refused = sagivelume::open_record(&[0, 0, 0, 11, 1, 0, 1]);
+/// assert_eq!(refused, Err(Refusal { number: 10, place: 0 }));
+/// # Ok::<(), Refusal>(())
+/// ```
+pub fn open_record(bytes: &[u8]) -> Result<Record<'_>, Refusal> {
+    let (hours, places) = linked::open_record(bytes).taken()?;
+    Ok(Record { bytes, hours, places })
+}
+
+/// An opened record: a view of its bytes.
+///
+/// ```
+/// let bytes = [0, 0, 0, 10, 1, 0, 2, 255, 255, 255, 0, 1, 244, 0];
+/// let record = sagivelume::open_record(&bytes)?;
+/// let coefficients: Vec<i32> = (0..record.places()).map(|place| record.coefficient(place)).collect::<Result<_, _>>()?;
+/// assert_eq!(coefficients, [-1, 500]);
+/// # Ok::<(), sagivelume::Refusal>(())
+/// ```
+#[derive(Clone, Copy, Debug, PartialEq, Eq)]
+pub struct Record<'a> {
+    bytes: &'a [u8],
+    hours: usize,
+    places: usize,
+}
+
+impl Record<'_> {
+    /// The hours of its series, n.
+    pub fn hours(&self) -> usize {
+        self.hours
+    }
+
+    /// The places of its coefficients, P.
+    pub fn places(&self) -> usize {
+        self.places
+    }
+
+    /// The coefficient of a place. Refusal 13 for a place from P on, and no other.
+    ///
+    /// ```
+    /// use sagivelume::Refusal;
+    ///
+    /// let record = sagivelume::open_record(&[0, 0, 0, 10, 1, 0, 2, 255, 255, 255, 0, 1, 244, 0])?;
+    /// assert_eq!(record.coefficient(0), Ok(-1));
+    /// assert_eq!(record.coefficient(2), Err(Refusal { number: 13, place: 0 }));
+    /// # Ok::<(), Refusal>(())
+    /// ```
+    pub fn coefficient(&self, place: usize) -> Result<i32, Refusal> {
+        ask(self.bytes, self.places, place)
+    }
+}
+
+/// The coefficient at a place of a record's bytes. `places` is P as opening answered it for these bytes: it is taken as
+/// it is, nothing else of the record is looked at, and with another P the answer is not the record's. A [`Record`] has
+/// its places from opening.
+///
+/// Refusals in the order 13 (the place is not below the number of places), 8 (the bytes do not reach the place).
+///
+/// ```
+/// use sagivelume::Refusal;
+///
+/// let bytes = [0, 0, 0, 0, 0, 0, 0, 255, 255, 249, 0, 0, 7];
+/// assert_eq!(sagivelume::ask(&bytes, 2, 0), Ok(-7));
+/// assert_eq!(sagivelume::ask(&bytes, 2, 1), Ok(7));
+/// assert_eq!(sagivelume::ask(&bytes[..12], 2, 1), Err(Refusal { number: 8, place: 0 }));
+/// assert_eq!(sagivelume::ask(&bytes, 1, 1), Err(Refusal { number: 13, place: 0 }));
+/// ```
+pub fn ask(bytes: &[u8], places: usize, place: usize) -> Result<i32, Refusal> {
+    linked::ask(bytes, places, place).taken()
+}
