@@ -3,7 +3,8 @@
 use std::ops::Range;
 
 use crate::linked;
-use crate::refusal::Refusal;
+use crate::refusal::{Refusal, Told};
+use crate::table::GAP;
 
 /// Column k of the window [a, b) drawn in w columns. Nothing is checked until a call takes it.
 ///
@@ -30,8 +31,7 @@ pub struct Column {
 
 /// The hours of a column of a series of n hours. With more columns than hours some columns have none.
 ///
-/// Refusals in the order 1 (n is 0 or over 16,384), 5 (the window is not a < b ≤ n), 6 (w is 0 or over 4,096, or k is
-/// not below w).
+/// [Refusals](Refusal) 1, 5, 6.
 ///
 /// ```
 /// use sagivelume::{Column, Refusal};
@@ -71,10 +71,8 @@ pub struct Stopped {
 
 /// The answer of a column at depth d, 0 to l: only nodes of a level below d are opened.
 ///
-/// Refusals in the order 1 (n is 0 or over 16,384), 3 (a buffer is shorter than needed: P coefficients, P/2 codes),
-/// 5 (the window is not a < b ≤ n), 6 (w is 0 or over 4,096, or k is not below w), 7 (d is over l), 4 (the node at its
-/// place is the first unsound one of those examined, the root values, called 0, and then the opened nodes). For a
-/// column without an hour nothing is examined.
+/// Needs P coefficients and P/2 codes. [Refusals](Refusal) 1, 3, 5, 6, 7, 4. Examined are the root values and then the
+/// opened nodes; for a column without an hour nothing is.
 ///
 /// ```
 /// use sagivelume::{Column, LowHigh, Refusal};
@@ -97,4 +95,50 @@ pub struct Stopped {
 /// ```
 pub fn stopped(n: usize, coefficients: &[i32], codes: &[u8], column: Column, d: usize) -> Result<Stopped, Refusal> {
     linked::stopped(n, coefficients, codes, column, d).taken()
+}
+
+/// How asking for a column's edges ended, with its first hour and the hour after its last.
+#[repr(C)]
+pub(crate) struct ToldColumn {
+    number: usize,
+    place: usize,
+    from: usize,
+    upto: usize,
+}
+
+impl ToldColumn {
+    /// The hours of the column, or the refusal.
+    pub(crate) fn taken(self) -> Result<Range<usize>, Refusal> {
+        let ToldColumn { number, place, from, upto } = self;
+        Told { number, place }.taken().map(|()| from..upto)
+    }
+}
+
+/// How a column stopped at a depth ended, with its ranges and its count. An absent range holds the gap mark twice.
+#[repr(C)]
+pub(crate) struct ToldRanges {
+    number: usize,
+    place: usize,
+    outer_low: i32,
+    outer_high: i32,
+    inner_low: i32,
+    inner_high: i32,
+    count: usize,
+}
+
+impl ToldRanges {
+    /// Ranges and count, or the refusal.
+    pub(crate) fn taken(self) -> Result<Stopped, Refusal> {
+        let ToldRanges { number, place, count, .. } = self;
+        Told { number, place }.taken().map(|()| Stopped {
+            outer: range(self.outer_low, self.outer_high),
+            inner: range(self.inner_low, self.inner_high),
+            count,
+        })
+    }
+}
+
+/// A range, `None` if it is absent.
+fn range(low: i32, high: i32) -> Option<LowHigh> {
+    ((low, high) != (GAP, GAP)).then_some(LowHigh { low, high })
 }

@@ -2,7 +2,7 @@
 
 use crate::column::Column;
 use crate::linked;
-use crate::refusal::Refusal;
+use crate::refusal::{Refusal, Told};
 
 /// A reading with its hour.
 #[derive(Clone, Copy, Debug, PartialEq, Eq)]
@@ -40,10 +40,8 @@ pub struct Finished {
 
 /// The finished answer of a column: first and last reading, each with its hour, low, high and count.
 ///
-/// Refusals in the order 1 (n is 0 or over 16,384), 3 (a buffer is shorter than needed: P coefficients, P/2 codes),
-/// 5 (the window is not a < b ≤ n), 6 (w is 0 or over 4,096, or k is not below w), 4 (the node at its place is the
-/// first unsound one of those examined: the root values, called 0, then the opened nodes, then those on the walk to the
-/// first reading and on that to the last). For a column without an hour nothing is examined.
+/// Needs P coefficients and P/2 codes. [Refusals](Refusal) 1, 3, 5, 6, 4. Examined are the root values, then the opened
+/// nodes, then those on the walk to the first reading and on that to the last; for a column without an hour nothing is.
 ///
 /// ```
 /// use sagivelume::{Column, Reading};
@@ -87,8 +85,8 @@ pub fn join(left: Answer, right: Answer) -> Answer {
 /// The change of a day, which has the hours 24·d to 24·d + 23, cut at n: its last reading minus its first, `None` for
 /// "no reading".
 ///
-/// Refusals in the order 1 (n is 0 or over 16,384), 3 (a buffer is shorter than needed: P coefficients, P/2 codes),
-/// 5 (24·d ≥ n), 4 as for a finished column over these hours.
+/// Needs P coefficients and P/2 codes. [Refusals](Refusal) 1, 3, 5, 4, the last as for a finished column over these
+/// hours.
 ///
 /// ```
 /// use sagivelume::{Refusal, GAP};
@@ -103,4 +101,79 @@ pub fn join(left: Answer, right: Answer) -> Answer {
 /// ```
 pub fn day_change(n: usize, coefficients: &[i32], codes: &[u8], day: usize) -> Result<Option<i32>, Refusal> {
     linked::day_change(n, coefficients, codes, day).taken()
+}
+
+/// An answer without its count: found 0 is "no reading", with 0 in every other field.
+#[repr(C)]
+pub(crate) struct ToldAnswer {
+    found: usize,
+    first_hour: usize,
+    last_hour: usize,
+    first: i32,
+    last: i32,
+    low: i32,
+    high: i32,
+}
+
+impl ToldAnswer {
+    /// An answer as the archive takes it.
+    pub(crate) fn of(answer: Answer) -> ToldAnswer {
+        let Some(Summary { first, last, low, high }) = answer else {
+            return ToldAnswer { found: 0, first_hour: 0, last_hour: 0, first: 0, last: 0, low: 0, high: 0 };
+        };
+        ToldAnswer {
+            found: 1,
+            first_hour: first.hour,
+            last_hour: last.hour,
+            first: first.grams,
+            last: last.grams,
+            low,
+            high,
+        }
+    }
+
+    /// The answer itself.
+    pub(crate) fn answer(self) -> Answer {
+        let ToldAnswer { found, first_hour, last_hour, first, last, low, high } = self;
+        (found != 0).then_some(Summary {
+            first: Reading { hour: first_hour, grams: first },
+            last: Reading { hour: last_hour, grams: last },
+            low,
+            high,
+        })
+    }
+}
+
+/// How a finished column ended, with its answer and its count.
+#[repr(C)]
+pub(crate) struct ToldFinished {
+    number: usize,
+    place: usize,
+    answer: ToldAnswer,
+    count: usize,
+}
+
+impl ToldFinished {
+    /// Answer and count, or the refusal.
+    pub(crate) fn taken(self) -> Result<Finished, Refusal> {
+        let ToldFinished { number, place, answer, count } = self;
+        Told { number, place }.taken().map(|()| Finished { answer: answer.answer(), count })
+    }
+}
+
+/// How a day change ended, with the grams. Found 0 is "no reading".
+#[repr(C)]
+pub(crate) struct ToldChange {
+    number: usize,
+    place: usize,
+    found: usize,
+    grams: i32,
+}
+
+impl ToldChange {
+    /// The change, `None` if the day has no reading, or the refusal.
+    pub(crate) fn taken(self) -> Result<Option<i32>, Refusal> {
+        let ToldChange { number, place, found, grams } = self;
+        Told { number, place }.taken().map(|()| (found != 0).then_some(grams))
+    }
 }

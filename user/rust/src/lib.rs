@@ -35,10 +35,9 @@ mod linked;
 mod record;
 mod refusal;
 mod table;
-mod told;
 
-pub use column::{edges, stopped, Column, LowHigh, Stopped};
-pub use finished::{day_change, finished, join, Answer, Finished, Reading, Summary};
-pub use record::{ask, open_record, read_record, write_record, Record};
-pub use refusal::Refusal;
-pub use table::{level, make, turn_back, GAP};
+pub use column::*;
+pub use finished::*;
+pub use record::*;
+pub use refusal::*;
+pub use table::*;

@@ -3,12 +3,11 @@
 //! A slice passes as its pointer, then its length. An empty slice passes Rust's pointer for it, which is aligned and
 //! not null. Each function below hands the parts of its slices on and gives back what the store gives, unjudged.
 
-use crate::column::Column;
-use crate::finished::Answer;
-use crate::told::{
-    Stretch, Told, ToldAnswer, ToldBytes, ToldChange, ToldCoefficient, ToldColumn, ToldFinished, ToldHours, ToldRanges,
-    ToldRecord,
-};
+use crate::column::{Column, ToldColumn, ToldRanges};
+use crate::finished::{Answer, ToldAnswer, ToldChange, ToldFinished};
+use crate::record::{ToldBytes, ToldCoefficient, ToldHours, ToldRecord};
+use crate::refusal::Told;
+use crate::table::Stretch;
 
 // What every call must keep: each pointer comes with the length of its own live slice, and a slice to be written, which
 // passes as `*mut`, is lent to that call alone.
@@ -102,7 +101,7 @@ extern "C" {
 }
 
 /// Makes a table.
-pub fn make(n: usize, readings: &[i32], coefficients: &mut [i32], codes: &mut [u8]) -> Told {
+pub(crate) fn make(n: usize, readings: &[i32], coefficients: &mut [i32], codes: &mut [u8]) -> Told {
     // SAFETY: as at the `extern` block: three live slices with their lengths, the last two lent to this call alone.
     unsafe {
         sagivelume_make(
@@ -118,7 +117,7 @@ pub fn make(n: usize, readings: &[i32], coefficients: &mut [i32], codes: &mut [u
 }
 
 /// Turns a table back.
-pub fn turn_back(n: usize, coefficients: &[i32], codes: &[u8], hours: &mut [i32]) -> Told {
+pub(crate) fn turn_back(n: usize, coefficients: &[i32], codes: &[u8], hours: &mut [i32]) -> Told {
     // SAFETY: as at the `extern` block: three live slices with their lengths, the last lent to this call alone.
     unsafe {
         sagivelume_turn_back(
@@ -134,13 +133,13 @@ pub fn turn_back(n: usize, coefficients: &[i32], codes: &[u8], hours: &mut [i32]
 }
 
 /// The details of one level.
-pub fn level(n: usize, j: usize, coefficients: &[i32]) -> Stretch {
+pub(crate) fn level(n: usize, j: usize, coefficients: &[i32]) -> Stretch {
     // SAFETY: as at the `extern` block: one live slice with its length, which is only read.
     unsafe { sagivelume_level(n, j, coefficients.as_ptr(), coefficients.len()) }
 }
 
 /// Writes a record.
-pub fn write_record(n: usize, coefficients: &[i32], codes: &[u8], bytes: &mut [u8]) -> ToldBytes {
+pub(crate) fn write_record(n: usize, coefficients: &[i32], codes: &[u8], bytes: &mut [u8]) -> ToldBytes {
     // SAFETY: as at the `extern` block: three live slices with their lengths, the last lent to this call alone.
     unsafe {
         sagivelume_write_record(
@@ -156,7 +155,7 @@ pub fn write_record(n: usize, coefficients: &[i32], codes: &[u8], bytes: &mut [u
 }
 
 /// Reads a record.
-pub fn read_record(bytes: &[u8], coefficients: &mut [i32], codes: &mut [u8]) -> ToldHours {
+pub(crate) fn read_record(bytes: &[u8], coefficients: &mut [i32], codes: &mut [u8]) -> ToldHours {
     // SAFETY: as at the `extern` block: three live slices with their lengths, the last two lent to this call alone.
     unsafe {
         sagivelume_read_record(
@@ -171,25 +170,25 @@ pub fn read_record(bytes: &[u8], coefficients: &mut [i32], codes: &mut [u8]) -> 
 }
 
 /// Opens a record.
-pub fn open_record(bytes: &[u8]) -> ToldRecord {
+pub(crate) fn open_record(bytes: &[u8]) -> ToldRecord {
     // SAFETY: as at the `extern` block: one live slice with its length, which is only read.
     unsafe { sagivelume_open_record(bytes.as_ptr(), bytes.len()) }
 }
 
 /// Asks a record of so many places for one coefficient.
-pub fn ask(bytes: &[u8], places: usize, place: usize) -> ToldCoefficient {
+pub(crate) fn ask(bytes: &[u8], places: usize, place: usize) -> ToldCoefficient {
     // SAFETY: as at the `extern` block: one live slice with its length, which is only read.
     unsafe { sagivelume_ask(bytes.as_ptr(), bytes.len(), places, place) }
 }
 
 /// The edges of a column.
-pub fn edges(n: usize, Column { a, b, w, k }: Column) -> ToldColumn {
+pub(crate) fn edges(n: usize, Column { a, b, w, k }: Column) -> ToldColumn {
     // SAFETY: as at the `extern` block: numbers alone, and no slice.
     unsafe { sagivelume_edges(n, a, b, w, k) }
 }
 
 /// The answer of a column at a depth.
-pub fn stopped(n: usize, coefficients: &[i32], codes: &[u8], column: Column, depth: usize) -> ToldRanges {
+pub(crate) fn stopped(n: usize, coefficients: &[i32], codes: &[u8], column: Column, depth: usize) -> ToldRanges {
     let Column { a, b, w, k } = column;
     // SAFETY: as at the `extern` block: two live slices with their lengths, which are only read.
     unsafe {
@@ -198,7 +197,7 @@ pub fn stopped(n: usize, coefficients: &[i32], codes: &[u8], column: Column, dep
 }
 
 /// The finished answer of a column.
-pub fn finished(n: usize, coefficients: &[i32], codes: &[u8], column: Column) -> ToldFinished {
+pub(crate) fn finished(n: usize, coefficients: &[i32], codes: &[u8], column: Column) -> ToldFinished {
     let Column { a, b, w, k } = column;
     // SAFETY: as at the `extern` block: two live slices with their lengths, which are only read.
     unsafe {
@@ -207,13 +206,13 @@ pub fn finished(n: usize, coefficients: &[i32], codes: &[u8], column: Column) ->
 }
 
 /// Joins two answers.
-pub fn join(left: Answer, right: Answer) -> ToldAnswer {
+pub(crate) fn join(left: Answer, right: Answer) -> ToldAnswer {
     // SAFETY: as at the `extern` block: numbers alone, and no slice.
     unsafe { sagivelume_join(ToldAnswer::of(left), ToldAnswer::of(right)) }
 }
 
 /// The change of a day.
-pub fn day_change(n: usize, coefficients: &[i32], codes: &[u8], day: usize) -> ToldChange {
+pub(crate) fn day_change(n: usize, coefficients: &[i32], codes: &[u8], day: usize) -> ToldChange {
     // SAFETY: as at the `extern` block: two live slices with their lengths, which are only read.
     unsafe { sagivelume_day_change(n, coefficients.as_ptr(), coefficients.len(), codes.as_ptr(), codes.len(), day) }
 }

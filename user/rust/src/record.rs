@@ -4,12 +4,11 @@
 //! of three bytes each in two's complement, and P/2 codes of one byte each.
 
 use crate::linked;
-use crate::refusal::Refusal;
+use crate::refusal::{Refusal, Told};
 
 /// Writes the record of a table and gives the number of its bytes, 7 + 3P + P/2.
 ///
-/// Refusals in the order 1 (n is 0 or over 16,384), 3 (a buffer is shorter than needed: P coefficients, P/2 codes, the
-/// record's bytes), 4 (the node at its place is the first unsound one; 0 stands for the root values).
+/// Needs P coefficients, P/2 codes and room for the record's bytes. [Refusals](Refusal) 1, 3, 4.
 ///
 /// ```
 /// use sagivelume::Refusal;
@@ -29,9 +28,8 @@ pub fn write_record(n: usize, coefficients: &[i32], codes: &[u8], bytes: &mut [u
 /// Reads a record into a table, P coefficients and P/2 codes, and gives n. The bytes are the record itself, so that
 /// none may follow it.
 ///
-/// Refusals in the order 8 (under 7 bytes), 9 (the version is not 1), 1 (n is 0 or over 16,384), 10 (the length field
-/// is not that of n), 8 (fewer bytes than stated), 11 (bytes after the record), 3 (a buffer is shorter than needed: P
-/// coefficients, P/2 codes), 4 (the node at its place is the first unsound one; 0 stands for the root values).
+/// Needs room for P coefficients and P/2 codes. [Refusals](Refusal) 8, 9, 1, 10, 8, 11, 3, 4: the first 8 is that of
+/// fewer than 7 bytes, the other that of fewer than the length field states.
 ///
 /// ```
 /// use sagivelume::Refusal;
@@ -51,7 +49,7 @@ pub fn read_record(bytes: &[u8], coefficients: &mut [i32], codes: &mut [u8]) -> 
 
 /// Opens a record, to ask it for single coefficients without unpacking it. Whether its table is sound is not examined.
 ///
-/// Refusals are those of reading except 3 and 4: in the order 8, 9, 1, 10, 8, 11.
+/// [Refusals](Refusal) 8, 9, 1, 10, 8, 11, as those of reading.
 ///
 /// ```
 /// use sagivelume::Refusal;
@@ -115,7 +113,7 @@ impl Record<'_> {
 /// it is, nothing else of the record is looked at, and with another P the answer is not the record's. A [`Record`] has
 /// its places from opening.
 ///
-/// Refusals in the order 13 (the place is not below the number of places), 8 (the bytes do not reach the place).
+/// [Refusals](Refusal) 13, 8.
 ///
 /// ```
 /// use sagivelume::Refusal;
@@ -128,4 +126,69 @@ impl Record<'_> {
 /// ```
 pub fn ask(bytes: &[u8], places: usize, place: usize) -> Result<i32, Refusal> {
     linked::ask(bytes, places, place).taken()
+}
+
+/// How writing a record ended, with the number of its bytes.
+#[repr(C)]
+pub(crate) struct ToldBytes {
+    number: usize,
+    place: usize,
+    bytes: usize,
+}
+
+impl ToldBytes {
+    /// The number of bytes, or the refusal.
+    pub(crate) fn taken(self) -> Result<usize, Refusal> {
+        let ToldBytes { number, place, bytes } = self;
+        Told { number, place }.taken().map(|()| bytes)
+    }
+}
+
+/// How reading a record ended, with the hours of its series.
+#[repr(C)]
+pub(crate) struct ToldHours {
+    number: usize,
+    place: usize,
+    hours: usize,
+}
+
+impl ToldHours {
+    /// The hours, or the refusal.
+    pub(crate) fn taken(self) -> Result<usize, Refusal> {
+        let ToldHours { number, place, hours } = self;
+        Told { number, place }.taken().map(|()| hours)
+    }
+}
+
+/// How opening a record ended, with the hours of its series and the places of its coefficients.
+#[repr(C)]
+pub(crate) struct ToldRecord {
+    number: usize,
+    place: usize,
+    hours: usize,
+    places: usize,
+}
+
+impl ToldRecord {
+    /// Hours and places, or the refusal.
+    pub(crate) fn taken(self) -> Result<(usize, usize), Refusal> {
+        let ToldRecord { number, place, hours, places } = self;
+        Told { number, place }.taken().map(|()| (hours, places))
+    }
+}
+
+/// How asking for a coefficient ended, with the coefficient.
+#[repr(C)]
+pub(crate) struct ToldCoefficient {
+    number: usize,
+    place: usize,
+    coefficient: i32,
+}
+
+impl ToldCoefficient {
+    /// The coefficient, or the refusal.
+    pub(crate) fn taken(self) -> Result<i32, Refusal> {
+        let ToldCoefficient { number, place, coefficient } = self;
+        Told { number, place }.taken().map(|()| coefficient)
+    }
 }

@@ -3,7 +3,8 @@
 use std::error::Error;
 use std::fmt;
 
-/// A refusal: its number and its place. The place is 0 but for two of them.
+/// A refusal: its number and its place. The place is 0 but for two of them. Where a call has several causes, the first
+/// in the order given with it is told.
 ///
 /// | number | cause | place |
 /// |---|---|---|
@@ -41,3 +42,22 @@ impl fmt::Display for Refusal {
 }
 
 impl Error for Refusal {}
+
+/// How a call ended: number 0 if it was taken, else the number of the refusal, with its place.
+#[repr(C)]
+pub(crate) struct Told {
+    pub(crate) number: usize,
+    pub(crate) place: usize,
+}
+
+impl Told {
+    /// Taken, or the refusal.
+    pub(crate) fn taken(self) -> Result<(), Refusal> {
+        match self.number {
+            0 => Ok(()),
+            number => {
+                Err(Refusal { number: u8::try_from(number).expect("refusals are numbered 1 to 13"), place: self.place })
+            }
+        }
+    }
+}

@@ -12,8 +12,7 @@ pub const GAP: i32 = 2_000_003;
 
 /// Makes the table of the first n readings: writes P coefficients and P/2 codes.
 ///
-/// Refusals in the order 1 (n is 0 or over 16,384), 3 (a buffer is shorter than needed: n readings, P coefficients, P/2
-/// codes), 2 (the hour at its place holds neither a reading nor a gap).
+/// Needs n readings and room for P coefficients and P/2 codes. [Refusals](Refusal) 1, 3, 2.
 ///
 /// ```
 /// use sagivelume::{Refusal, GAP};
@@ -34,8 +33,7 @@ pub fn make(n: usize, readings: &[i32], coefficients: &mut [i32], codes: &mut [u
 
 /// Turns a table back: writes the n hours of its series.
 ///
-/// Refusals in the order 1 (n is 0 or over 16,384), 3 (a buffer is shorter than needed: P coefficients, P/2 codes, n
-/// hours), 4 (the node at its place is the first unsound one; 0 stands for the root values).
+/// Needs P coefficients, P/2 codes and room for n hours. [Refusals](Refusal) 1, 3, 4.
 ///
 /// ```
 /// use sagivelume::{Refusal, GAP};
@@ -65,4 +63,18 @@ pub fn turn_back(n: usize, coefficients: &[i32], codes: &[u8], hours: &mut [i32]
 /// ```
 pub fn level(n: usize, j: usize, coefficients: &[i32]) -> &[i32] {
     linked::level(n, j, coefficients).of(coefficients)
+}
+
+/// A part of a lent slice.
+#[repr(C)]
+pub(crate) struct Stretch {
+    start: usize,
+    length: usize,
+}
+
+impl Stretch {
+    /// The part itself.
+    pub(crate) fn of<T>(self, lent: &[T]) -> &[T] {
+        &lent[self.start..][..self.length]
+    }
 }

@@ -1,6 +1,6 @@
 //! The C header, and this crate's own declarations, held against the boundary's source in Rattle: the same functions in
-//! the same order, with the same parameters of the same width, the same structs with the same fields, and the same
-//! constants. A linker checks none of it.
+//! the same order, with the same parameters of the same width, the same structs with the same fields, the same
+//! constants, and the refusals in the same order. A linker checks none of it.
 
 use std::fs;
 use std::path::Path;
@@ -19,6 +19,11 @@ struct Declared {
 fn file(path: &str) -> String {
     let root = Path::new(env!("CARGO_MANIFEST_DIR")).join("../..");
     fs::read_to_string(root.join(path)).unwrap_or_else(|why| panic!("{path}: {why}"))
+}
+
+/// The modules of this crate whose calls and structs are the boundary's.
+fn modules() -> String {
+    ["refusal", "table", "record", "column", "finished"].map(|name| file(&format!("user/rust/src/{name}.rs"))).concat()
 }
 
 /// The part of a text from after `begin` to before `end`, and what follows it.
@@ -40,7 +45,7 @@ fn all_between<'a>(mut text: &'a str, begin: &str, end: &str) -> Vec<&'a str> {
 /// `name: type`, in Rattle or in Rust. A slice of Rattle passes as a pointer and then a length.
 fn of_rust(part: &str) -> Vec<[String; 2]> {
     let (name, held) = part.split_once(": ").unwrap_or_else(|| panic!("no type: {part}"));
-    let name = name.trim_start_matches("pub ");
+    let name = name.trim_start_matches("pub ").trim_start_matches("pub(crate) ");
     let pointer = held
         .strip_prefix("&mut [")
         .map(|of| format!("*mut {of}"))
@@ -93,7 +98,8 @@ fn function(text: &str) -> Declared {
 
 /// The structs of a file of Rattle or Rust that C takes as they are.
 fn structs(text: &str) -> Vec<Declared> {
-    let declared = all_between(text, "#[repr(C)]\npub struct ", "}").into_iter().map(|text| {
+    let declared = all_between(text, "#[repr(C)]\n", "}").into_iter().map(|text| {
+        let (_, text) = text.split_once("struct ").expect("a struct");
         let (name, fields) = text.split_once(" {").expect("fields");
         Declared { name: name.into(), parts: parts(fields, ',', of_rust), gives: String::new() }
     });
@@ -147,7 +153,7 @@ fn structs_are_those_of_the_boundary() {
     let told = sorted(told.iter().flat_map(|text| structs(text)).collect());
     assert_eq!(told.len(), 11);
     assert_eq!(sorted(c_structs(&file("user/include/sagivelume.h"))), told);
-    assert_eq!(sorted(structs(&file("user/rust/src/told.rs"))), told);
+    assert_eq!(sorted(structs(&modules())), told);
 }
 
 #[test]
@@ -165,4 +171,43 @@ fn constants_are_those_of_the_store() {
     assert_eq!(constants, 4);
     let (gap, _) = between(&words, "pub const GAP: i32 = ", ";").expect("the gap");
     assert_eq!(sagivelume::GAP.to_string(), gap.replace('_', ""));
+}
+
+/// The numbers of a call's refusals, in the order in which the comment before it has them.
+fn refusals(text: &str, call: &str) -> Vec<u8> {
+    let (before, _) = text.split_once(call).unwrap_or_else(|| panic!("no {call}"));
+    let comment = before.rsplit("\n\n").next().expect("a last part").split_whitespace();
+    let mut words = comment.filter(|word| !["*", "//", "///"].contains(word));
+    words.find(|word| word.trim_start_matches('[').starts_with("Refusals"));
+    words.map_while(|word| word.trim_end_matches([',', '.', ':']).parse().ok()).collect()
+}
+
+#[test]
+fn refusals_are_in_the_order_of_the_boundary() {
+    let boundary = file("crates/sagivelume/src/lib.rt");
+    let header = file("user/include/sagivelume.h");
+    let modules = modules();
+    let calls = all_between(&boundary, "extern \"C\" fn sagivelume_", "(");
+    assert_eq!(calls.len(), 12);
+    for call in calls {
+        let order = refusals(&boundary, &format!("fn sagivelume_{call}("));
+        assert_eq!(order.is_empty(), ["level", "join"].contains(&call), "{call}");
+        assert_eq!(refusals(&header, &format!(" sagivelume_{call}(")), order, "{call}");
+        assert_eq!(refusals(&modules, &format!("pub fn {call}(")), order, "{call}");
+    }
+}
+
+#[test]
+fn causes_are_those_of_the_header() {
+    let header = file("user/include/sagivelume.h");
+    let refusal = file("user/rust/src/refusal.rs");
+    let mut causes = 0;
+    for row in all_between(&refusal, "\n/// | ", " |") {
+        let Ok(number) = row.parse::<u8>() else { continue };
+        let (cause, _) = between(&refusal, &format!("\n/// | {number} | "), " |").expect("a cause");
+        let cause = cause.replace('≤', "<=");
+        assert!(header.contains(&format!("\n *    {number:6}  {cause}  ")), "{number}: {cause}");
+        causes += 1;
+    }
+    assert_eq!(causes, 12);
 }
