@@ -4,27 +4,6 @@ use Rattle.signed.proofs.Widths.{reads-back}
 use Rattle.answers.proofs.join.Statement.{statement}
 use Rattle.answers.proofs.join.Tie as tie
 
-enum-told : tie.Need-enum-told
-enum-told c = search needs
-
-enum-known-left : tie.Need-enum-known-left
-enum-known-left c = search needs
-
-enum-told-2 : tie.Need-enum-told-2
-enum-told-2 c = search needs
-
-enum-known-right : tie.Need-enum-known-right
-enum-known-right c = search needs
-
-lesser-requires : tie.Need-lesser-requires
-lesser-requires c κs = search needs
-
-greater-requires : tie.Need-greater-requires
-greater-requires c κs = search needs
-
-returns : tie.Need-returns
-returns c = search needs
-
 returns-2 : tie.Need-returns-2
 returns-2 c = rw (c .before .before .before .left .given .1, c .enum-told2 .given .1)
 
@@ -49,13 +28,5 @@ returns-3 c =
 pub join-spec : {M : Type 1} → statement M
 join-spec =
     tie.close
-    (tie.spec
-    enum-told
-    enum-known-left
-    enum-told-2
-    enum-known-right
-    lesser-requires
-    greater-requires
-    returns
-    returns-2
-    returns-3)
+    (tie.spec (λ c. search needs) (λ c. search needs) (λ c. search needs) (λ c. search needs) (λ c κs. search needs)
+    (λ c κs. search needs) (λ c. search needs) returns-2 returns-3)

@@ -22,25 +22,10 @@ through c = rw (c .seen .given .1) at (c .before .before .visit-table .ensures)
 returns : tie.Need-returns
 returns c = laws.finished-none _ _ _ _ (c .if1 .taken)
 
-visit-table-requires : tie.Need-visit-table-requires
-visit-table-requires c κs = search needs
-
-enum-known-i : tie.Need-enum-known-i
-enum-known-i c = search needs
-
-enum-known-seen : tie.Need-enum-known-seen
-enum-known-seen c = search needs
-
 count-of-requires : tie.Need-count-of-requires
 count-of-requires c κs =
     let start = hour-at (c .before) .before .before .before in
     omega (arith, through (c .before) .few _ refl, P-most (start .args .n))
-
-enum-told : tie.Need-enum-told
-enum-told c = search needs
-
-enum-known-nodes : tie.Need-enum-known-nodes
-enum-known-nodes c = search needs
 
 found-requires : tie.Need-found-requires
 found-requires c κs =
@@ -80,15 +65,5 @@ returns-4 c =
 pub finished-over-spec : {M : Type 1} → statement M
 finished-over-spec =
     tie.close
-    (tie.spec
-    returns
-    visit-table-requires
-    enum-known-i
-    enum-known-seen
-    count-of-requires
-    enum-told
-    enum-known-nodes
-    found-requires
-    returns-2
-    returns-3
-    returns-4)
+    (tie.spec returns (λ c κs. search needs) (λ c. search needs) (λ c. search needs) count-of-requires
+    (λ c. search needs) (λ c. search needs) found-requires returns-2 returns-3 returns-4)

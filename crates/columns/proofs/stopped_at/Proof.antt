@@ -31,9 +31,6 @@ returns c = laws.too-deep _ _ _ _ _ (depths.over-all _ _ (c .if1 .taken))
 places-requires : tie.Need-places-requires
 places-requires c κs = good-some _ (c .before .before .pre .good) .1
 
-power-requires : tie.Need-power-requires
-power-requires c κs = search needs
-
 returns-2 : tie.Need-returns-2
 returns-2 c =
     let more = rw (c .before .before .places .ensures, c .before .power .ensures) at (c .if2 .taken) in
@@ -56,4 +53,4 @@ returns-3 c =
 pub stopped-at-spec : {M : Type 1} → statement M
 stopped-at-spec =
     tie.close
-    (tie.spec returns places-requires power-requires returns-2 div-stop stopped-over-requires returns-3)
+    (tie.spec returns places-requires (λ c κs. search needs) returns-2 div-stop stopped-over-requires returns-3)

@@ -22,18 +22,6 @@ through c = rw (c .seen .given .1) at (c .before .before .visit-table .ensures)
 returns : tie.Need-returns
 returns c = laws.stopped-none _ _ _ _ _ (c .if1 .taken)
 
-visit-table-requires : tie.Need-visit-table-requires
-visit-table-requires c κs = search needs
-
-enum-known-i : tie.Need-enum-known-i
-enum-known-i c = search needs
-
-enum-known-seen : tie.Need-enum-known-seen
-enum-known-seen c = search needs
-
-inner-range-requires : tie.Need-inner-range-requires
-inner-range-requires c κs = search needs
-
 count-of-requires : tie.Need-count-of-requires
 count-of-requires c κs =
     let c2 = c .before .before in
@@ -55,12 +43,5 @@ returns-3 c =
 pub stopped-over-spec : {M : Type 1} → statement M
 stopped-over-spec =
     tie.close
-    (tie.spec
-    returns
-    visit-table-requires
-    enum-known-i
-    enum-known-seen
-    inner-range-requires
-    count-of-requires
-    returns-2
-    returns-3)
+    (tie.spec returns (λ c κs. search needs) (λ c. search needs) (λ c. search needs) (λ c κs. search needs)
+    count-of-requires returns-2 returns-3)

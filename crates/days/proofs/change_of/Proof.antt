@@ -12,19 +12,10 @@ use Rattle.days.proofs.change_of.Tie as tie
 held : (c : tie.After-answer) → SmallAnswer (Answer.Found (c .answer .given .0 .0))
 held c = rw (c .answer .given .1) at (c .before .before .pre)
 
-enum-told : tie.Need-enum-told
-enum-told c = search needs
-
-enum-known-answer : tie.Need-enum-known-answer
-enum-known-answer c = search needs
-
 sub-grams : tie.Need-sub-grams
 sub-grams c =
     let c3 = c .before .before .before in
     laws.change-fits (c3 .answer .given .0 .0) (held c3)
-
-returns : tie.Need-returns
-returns c = search needs
 
 returns-2 : tie.Need-returns-2
 returns-2 c =
@@ -32,4 +23,4 @@ returns-2 c =
     rw (c3 .answer .given .1) (ap DayChange.Grams (laws.change-is (c3 .answer .given .0 .0) (held c3)))
 
 pub change-of-spec : {M : Type 1} → statement M
-change-of-spec = tie.close (tie.spec enum-told enum-known-answer sub-grams returns returns-2)
+change-of-spec = tie.close (tie.spec (λ c. search needs) (λ c. search needs) sub-grams (λ c. search needs) returns-2)

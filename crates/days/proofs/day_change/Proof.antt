@@ -27,19 +27,10 @@ table : (c : tie.After-enum-told) →
     (let a = c .before .before .before .before .args in TableLent (a .n) (a .coefficients .now) (a .codes .now))
 table c = checking.checked-lent _ _ _ (passed c)
 
-check-lent-requires : tie.Need-check-lent-requires
-check-lent-requires c κs = search needs
-
-enum-known-why : tie.Need-enum-known-why
-enum-known-why c = search needs
-
 returns : tie.Need-returns
 returns c =
     let c3 = c .before .before .before in
     laws.day-lent _ _ _ _ _ (sym (c .before .why .given .1) ∙ c3 .check-lent .ensures)
-
-enum-told : tie.Need-enum-told
-enum-told c = search needs
 
 returns-2 : tie.Need-returns-2
 returns-2 c =
@@ -47,9 +38,6 @@ returns-2 c =
     let a = told .before .before .before .before .args in
     let late : a .n ≤ dayHours * a .d = omega (arith, c .if1 .taken, good-some (a .n) (table told .good) .1) in
     laws.day-late _ _ _ _ (passed told) late
-
-mul-if2 : tie.Need-mul-if2
-mul-if2 c = search needs
 
 returns-3 : tie.Need-returns-3
 returns-3 c =
@@ -61,12 +49,6 @@ hours-of-requires c κs = (c .if2 .left, good-some _ (table (c .before .before) 
 
 finished-over-requires : tie.Need-finished-over-requires
 finished-over-requires c κs = table (c .before .before .before)
-
-enum-known-why-2 : tie.Need-enum-known-why-2
-enum-known-why-2 c = search needs
-
-enum-known-answer : tie.Need-enum-known-answer
-enum-known-answer c = search needs
 
 change-of-requires : tie.Need-change-of-requires
 change-of-requires c κs =
@@ -93,18 +75,6 @@ returns-5 c =
 pub day-change-spec : {M : Type 1} → statement M
 day-change-spec =
     tie.close
-    (tie.spec
-    check-lent-requires
-    enum-known-why
-    returns
-    enum-told
-    returns-2
-    mul-if2
-    returns-3
-    hours-of-requires
-    finished-over-requires
-    enum-known-why-2
-    enum-known-answer
-    change-of-requires
-    returns-4
-    returns-5)
+    (tie.spec (λ c κs. search needs) (λ c. search needs) returns (λ c. search needs) returns-2 (λ c. search needs)
+    returns-3 hours-of-requires finished-over-requires (λ c. search needs) (λ c. search needs) change-of-requires
+    returns-4 returns-5)

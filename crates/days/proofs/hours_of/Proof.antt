@@ -4,12 +4,6 @@ use Rattle.days.proofs.Daily as laws
 use Rattle.days.proofs.hours_of.Statement.{statement}
 use Rattle.days.proofs.hours_of.Tie as tie
 
-mul-from : tie.Need-mul-from
-mul-from c = search needs
-
-add-next : tie.Need-add-next
-add-next c = search needs
-
 returns : tie.Need-returns
 returns c =
     let a = c .before .args in
@@ -21,4 +15,4 @@ returns-2 c =
     laws.day-whole (a .n) (a .d) (c .if1 .left)
 
 pub hours-of-spec : {M : Type 1} → statement M
-hours-of-spec = tie.close (tie.spec mul-from add-next returns returns-2)
+hours-of-spec = tie.close (tie.spec (λ c. search needs) (λ c. search needs) returns returns-2)

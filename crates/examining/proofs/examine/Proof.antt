@@ -16,15 +16,6 @@ shared-slice-copy-out-root-range-2 c =
     let c2 = c .before .before in
     omega (arith, c2 .pre .coefficients, 2≤P (c2 .args .n))
 
-root-range-requires : tie.Need-root-range-requires
-root-range-requires c κs = search needs
-
-enum-known-root : tie.Need-enum-known-root
-enum-known-root c = search needs
-
-enum-told : tie.Need-enum-told
-enum-told c = search needs
-
 returns : tie.Need-returns
 returns c =
     let c2 = c .before .before in
@@ -65,13 +56,5 @@ returns-2 c =
 pub examine-spec : {M : Type 1} → statement M
 examine-spec =
     tie.close
-    (tie.spec
-    shared-slice-copy-out-root-range
-    shared-slice-copy-out-root-range-2
-    root-range-requires
-    enum-known-root
-    enum-told
-    returns
-    places-requires
-    examine-below-requires
-    returns-2)
+    (tie.spec shared-slice-copy-out-root-range shared-slice-copy-out-root-range-2 (λ c κs. search needs)
+    (λ c. search needs) (λ c. search needs) returns places-requires examine-below-requires returns-2)

@@ -15,32 +15,11 @@ step : (c : tie.After-pair-hours) {x : Halves} → c .pair-hours .result ≡ x �
     pairOf (a .range) (getD (a .codes .now) (a .h .0 / 2) 0) ≡ x)
 step c g = sym (c .pair-hours .ensures) ∙ g
 
-add-next : tie.Need-add-next
-add-next c = search needs
-
-shared-slice-read-pair-hours : tie.Need-shared-slice-read-pair-hours
-shared-slice-read-pair-hours c = search needs
-
-pair-hours-requires : tie.Need-pair-hours-requires
-pair-hours-requires c κs = search needs
-
-enum-known-pair : tie.Need-enum-known-pair
-enum-known-pair c = search needs
-
-enum-told : tie.Need-enum-told
-enum-told c = search needs
-
 returns : tie.Need-returns
 returns c =
     let c2 = c .before .before in
     let a = c2 .before .before .before .args in
     laws.code-unsound (a .n) (a .codes .now) (a .h .0) (a .range) (step c2 (c .enum-told .given .1))
-
-allowed-requires : tie.Need-allowed-requires
-allowed-requires c κs = search needs
-
-allowed-requires-2 : tie.Need-allowed-requires-2
-allowed-requires-2 c κs = search needs
 
 returns-2 : tie.Need-returns-2
 returns-2 c =
@@ -73,15 +52,5 @@ returns-4 c =
 pub pair-halves-spec : {M : Type 1} → statement M
 pair-halves-spec =
     tie.close
-    (tie.spec
-    add-next
-    shared-slice-read-pair-hours
-    pair-hours-requires
-    enum-known-pair
-    enum-told
-    returns
-    allowed-requires
-    allowed-requires-2
-    returns-2
-    returns-3
-    returns-4)
+    (tie.spec (λ c. search needs) (λ c. search needs) (λ c κs. search needs) (λ c. search needs) (λ c. search needs)
+    returns (λ c κs. search needs) (λ c κs. search needs) returns-2 returns-3 returns-4)

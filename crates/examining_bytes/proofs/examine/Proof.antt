@@ -74,20 +74,8 @@ coefficient-at-requires-2 c κs =
     let start = c .before .before .before in
     omega (arith, start .pre .coefficients, 2≤P (start .args .n))
 
-root-range-requires : tie.Need-root-range-requires
-root-range-requires c κs = search needs
-
-enum-known-range : tie.Need-enum-known-range
-enum-known-range c = search needs
-
-enum-told : tie.Need-enum-told
-enum-told c = search needs
-
 returns : tie.Need-returns
 returns c = laws.root-unsound _ _ _ (root-told (c .before .before) ∙ c .enum-told .given .1)
-
-places-requires : tie.Need-places-requires
-places-requires c κs = search needs
 
 examine-pair-requires : tie.Need-examine-pair-requires
 examine-pair-requires c κs = let z = sizes (c .before) in omega (arith, z .some, z .even, z .pairs)
@@ -128,17 +116,6 @@ returns-4 c =
 pub examine-spec : {M : Type 1} → statement M
 examine-spec =
     tie.close
-    (tie.spec
-    coefficient-at-requires
-    coefficient-at-requires-2
-    root-range-requires
-    enum-known-range
-    enum-told
-    returns
-    places-requires
-    examine-pair-requires
-    returns-2
-    examine-four-requires
-    returns-3
-    examine-below-requires
-    returns-4)
+    (tie.spec coefficient-at-requires coefficient-at-requires-2 (λ c κs. search needs) (λ c. search needs)
+    (λ c. search needs) returns (λ c κs. search needs) examine-pair-requires returns-2 examine-four-requires returns-3
+    examine-below-requires returns-4)

@@ -5,9 +5,6 @@ use Rattle.level.proofs.level.Statement.{statement}
 use Rattle.level.proofs.level.Tie as tie
 use Rattle.level.proofs.Stretches.{part-fits, part-is}
 
-stretch-requires : tie.Need-stretch-requires
-stretch-requires c κs = search needs
-
 add-end : tie.Need-add-end
 add-end c =
     let c2 = c .before .before in
@@ -18,12 +15,6 @@ mul-result c =
     let c2 = c .before .before in
     omega (arith, part-fits _ _ (c2 .args .coefficients .now) _ (c .before .stretch .ensures), c2 .good)
 
-sub-result : tie.Need-sub-result
-sub-result c = search needs
-
-part-result-start : tie.Need-part-result-start
-part-result-start c = search needs
-
 part-result-end : tie.Need-part-result-end
 part-result-end c = part-fits _ _ (c .before .before .args .coefficients .now) _ (c .before .stretch .ensures)
 
@@ -33,11 +24,4 @@ returns c = part-is _ _ (c .before .before .before .args .coefficients .now) _ (
 pub level-spec : {M : Type 1} → statement M
 level-spec =
     tie.close
-    (tie.spec
-    stretch-requires
-    add-end
-    mul-result
-    sub-result
-    part-result-start
-    part-result-end
-    returns)
+    (tie.spec (λ c κs. search needs) add-end mul-result (λ c. search needs) (λ c. search needs) part-result-end returns)

@@ -13,9 +13,6 @@ use Rattle.level.proofs.Stretches as laws
 good : (c : tie.Else1) → badHours (c .before .before .args .n) ≡ false
 good c = sym (c .before .bad-hours .ensures) ∙ c .if1 .left
 
-bad-hours-requires : tie.Need-bad-hours-requires
-bad-hours-requires c κs = search needs
-
 returns : tie.Need-returns
 returns c = laws.bad-hours _ _ _ (sym (c .before .bad-hours .ensures) ∙ c .if1 .taken)
 
@@ -32,9 +29,6 @@ returns-3 c =
     let room = rw (c2 .places .ensures) at (c .before .if2 .left) in
     laws.too-deep _ _ _ (good (c2 .before)) room (c .if3 .taken)
 
-power-requires : tie.Need-power-requires
-power-requires c κs = search needs
-
 mul-if4 : tie.Need-mul-if4
 mul-if4 c = omega (arith, laws.small-power _ _ (c .power .ensures) (c .before .if3 .left))
 
@@ -45,9 +39,6 @@ returns-4 c =
     let p = c4 .places .ensures in
     laws.too-wide _ _ _ (good (c4 .before)) (rw p at (c3 .if2 .left))
     (rw (p, c .before .power .ensures) at (c .if4 .taken))
-
-mul-doubled : tie.Need-mul-doubled
-mul-doubled c = search needs
 
 returns-5 : tie.Need-returns-5
 returns-5 c =
@@ -61,14 +52,5 @@ returns-5 c =
 pub stretch-spec : {M : Type 1} → statement M
 stretch-spec =
     tie.close
-    (tie.spec
-    bad-hours-requires
-    returns
-    places-requires
-    returns-2
-    returns-3
-    power-requires
-    mul-if4
-    returns-4
-    mul-doubled
-    returns-5)
+    (tie.spec (λ c κs. search needs) returns places-requires returns-2 returns-3 (λ c κs. search needs) mul-if4
+    returns-4 (λ c. search needs) returns-5)

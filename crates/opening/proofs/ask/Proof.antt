@@ -12,22 +12,10 @@ returns c = laws.past-places _ _ _ (c .if1 .taken)
 returns-2 : tie.Need-returns-2
 returns-2 c = laws.no-header _ _ _ (c .before .if1 .left) (c .if2 .taken)
 
-sub-packed : tie.Need-sub-packed
-sub-packed c = search needs
-
-part-packed-start : tie.Need-part-packed-start
-part-packed-start c = search needs
-
-part-packed-end : tie.Need-part-packed-end
-part-packed-end c = search needs
-
 returns-3 : tie.Need-returns-3
 returns-3 c =
     let c2 = c .before .before in
     laws.few-packed _ _ _ (c2 .before .if1 .left) (c2 .if2 .left) (c .if3 .taken)
-
-coefficient-at-requires : tie.Need-coefficient-at-requires
-coefficient-at-requires c κs = search needs
 
 returns-4 : tie.Need-returns-4
 returns-4 c =
@@ -38,12 +26,5 @@ returns-4 c =
 pub ask-spec : {M : Type 1} → statement M
 ask-spec =
     tie.close
-    (tie.spec
-    returns
-    returns-2
-    sub-packed
-    part-packed-start
-    part-packed-end
-    returns-3
-    coefficient-at-requires
-    returns-4)
+    (tie.spec returns returns-2 (λ c. search needs) (λ c. search needs) (λ c. search needs) returns-3
+    (λ c κs. search needs) returns-4)

@@ -44,26 +44,8 @@ stated c =
 returns : tie.Need-returns
 returns c = laws.under-seven _ (c .if1 .taken)
 
-shared-slice-read-if2 : tie.Need-shared-slice-read-if2
-shared-slice-read-if2 c = search needs
-
 returns-2 : tie.Need-returns-2
 returns-2 c = laws.other-version _ (c .before .before .if1 .left) (c .if2 .taken)
-
-sub-number-from : tie.Need-sub-number-from
-sub-number-from c = search needs
-
-part-number-from-start : tie.Need-part-number-from-start
-part-number-from-start c = search needs
-
-part-number-from-end : tie.Need-part-number-from-end
-part-number-from-end c = search needs
-
-number-from-requires : tie.Need-number-from-requires
-number-from-requires c κs = search needs
-
-bad-hours-requires : tie.Need-bad-hours-requires
-bad-hours-requires c κs = search needs
 
 returns-3 : tie.Need-returns-3
 returns-3 c = laws.bad-hours _ _ (header (c .before .before)) (sym (c .before .bad-hours .ensures) ∙ c .if3 .taken)
@@ -73,18 +55,6 @@ places-requires c κs = good-some _ (good c) .1
 
 record-size-requires : tie.Need-record-size-requires
 record-size-requires c κs = rw (c .places .ensures) (P-most (c .before .before .before .number-from .result))
-
-sub-number-from-2 : tie.Need-sub-number-from-2
-sub-number-from-2 c = search needs
-
-part-number-from-start-2 : tie.Need-part-number-from-start-2
-part-number-from-start-2 c = search needs
-
-part-number-from-end-2 : tie.Need-part-number-from-end-2
-part-number-from-end-2 c = search needs
-
-number-from-requires-2 : tie.Need-number-from-requires-2
-number-from-requires-2 c κs = search needs
 
 add-if4 : tie.Need-add-if4
 add-if4 c =
@@ -114,24 +84,6 @@ returns-7 c =
 pub open-record-spec : {M : Type 1} → statement M
 open-record-spec =
     tie.close
-    (tie.spec
-    returns
-    shared-slice-read-if2
-    returns-2
-    sub-number-from
-    part-number-from-start
-    part-number-from-end
-    number-from-requires
-    bad-hours-requires
-    returns-3
-    places-requires
-    record-size-requires
-    sub-number-from-2
-    part-number-from-start-2
-    part-number-from-end-2
-    number-from-requires-2
-    add-if4
-    returns-4
-    returns-5
-    returns-6
-    returns-7)
+    (tie.spec returns (λ c. search needs) returns-2 (λ c. search needs) (λ c. search needs) (λ c. search needs)
+    (λ c κs. search needs) (λ c κs. search needs) returns-3 places-requires record-size-requires (λ c. search needs)
+    (λ c. search needs) (λ c. search needs) (λ c κs. search needs) add-if4 returns-4 returns-5 returns-6 returns-7)

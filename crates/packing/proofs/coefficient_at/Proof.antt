@@ -10,24 +10,6 @@ use Rattle.packing.proofs.Packed.{part-three}
 use Rattle.packing.proofs.coefficient_at.Statement.{statement}
 use Rattle.packing.proofs.coefficient_at.Tie as tie
 
-mul-at : tie.Need-mul-at
-mul-at c = search needs
-
-add-end : tie.Need-add-end
-add-end c = search needs
-
-sub-number-from : tie.Need-sub-number-from
-sub-number-from c = search needs
-
-part-number-from-start : tie.Need-part-number-from-start
-part-number-from-start c = search needs
-
-part-number-from-end : tie.Need-part-number-from-end
-part-number-from-end c = search needs
-
-number-from-requires : tie.Need-number-from-requires
-number-from-requires c κs = search needs
-
 signed-of-requires : tie.Need-signed-of-requires
 signed-of-requires c κs =
     let start = c .before .before .before in
@@ -45,12 +27,5 @@ returns c =
 pub coefficient-at-spec : {M : Type 1} → statement M
 coefficient-at-spec =
     tie.close
-    (tie.spec
-    mul-at
-    add-end
-    sub-number-from
-    part-number-from-start
-    part-number-from-end
-    number-from-requires
-    signed-of-requires
-    returns)
+    (tie.spec (λ c. search needs) (λ c. search needs) (λ c. search needs) (λ c. search needs) (λ c. search needs)
+    (λ c κs. search needs) signed-of-requires returns)

@@ -21,12 +21,6 @@ mul-x c =
     let start = c .before .before in
     omega (arith, read-small _ _ _ (c .before .loop .inv) (c .loop-test .taken) (start .before .pre))
 
-shared-slice-read-wide : tie.Need-shared-slice-read-wide Inv-loop μ-loop
-shared-slice-read-wide c = search needs
-
-wide-requires : tie.Need-wide-requires Inv-loop μ-loop
-wide-requires c κs = search needs
-
 add-x : tie.Need-add-x Inv-loop μ-loop
 add-x c =
     let c3 = c .before .before .before in
@@ -54,15 +48,5 @@ returns c = read-all _ _ _ (c .before .loop .inv) (c .loop-test .left)
 pub number-from-spec : {M : Type 1} → statement M
 number-from-spec =
     tie.close
-    (tie.spec
-    Inv-loop
-    μ-loop
-    loop-holds
-    mul-x
-    shared-slice-read-wide
-    wide-requires
-    add-x
-    add-k
-    loop-less
-    loop-again
-    returns)
+    (tie.spec Inv-loop μ-loop loop-holds mul-x (λ c. search needs) (λ c κs. search needs) add-x add-k loop-less
+    loop-again returns)

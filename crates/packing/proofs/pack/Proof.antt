@@ -45,27 +45,12 @@ bits-of-requires c κs =
     let z = getD (start .args .coefficients .now) p (pos 0) in
     rw (reads-back z (c .bits-of-arg .given)) (start .pre .1 p (c .before .loop-test .taken))
 
-sub-put-number : tie.Need-sub-put-number Inv-loop μ-loop
-sub-put-number c = search needs
-
-part-put-number-start : tie.Need-part-put-number-start Inv-loop μ-loop
-part-put-number-start c = search needs
-
 part-put-number-end : tie.Need-part-put-number-end Inv-loop μ-loop
 part-put-number-end c =
     let c3 = c .before .before .before in
     let start = c3 .before .before in
     let n = packed-length _ _ (start .pre .0) _ _ (c3 .loop .inv) in
     omega (arith, n, start .pre .0, c .before .before .loop-test .taken)
-
-put-number-requires : tie.Need-put-number-requires Inv-loop μ-loop
-put-number-requires c κs = search needs
-
-add-p : tie.Need-add-p Inv-loop μ-loop
-add-p c = search needs
-
-loop-less : tie.Need-loop-less Inv-loop μ-loop
-loop-less c = search needs
 
 loop-again : tie.Need-loop-again Inv-loop μ-loop
 loop-again c =
@@ -86,21 +71,6 @@ returns c = packed-all _ _ (c .before .before .before .pre .0) _ _ (c .before .l
 pub pack-spec : {M : Type 1} → statement M
 pack-spec =
     tie.close
-    (tie.spec
-    Inv-loop
-    μ-loop
-    loop-holds
-    mul-at
-    add-end
-    mul-bits-of
-    shared-slice-copy-out-bits-of
-    bits-of-requires
-    sub-put-number
-    part-put-number-start
-    part-put-number-end
-    put-number-requires
-    add-p
-    loop-less
-    loop-again
-    same-length
-    returns)
+    (tie.spec Inv-loop μ-loop loop-holds mul-at add-end mul-bits-of shared-slice-copy-out-bits-of bits-of-requires
+    (λ c. search needs) (λ c. search needs) part-put-number-end (λ c κs. search needs) (λ c. search needs)
+    (λ c. search needs) loop-again same-length returns)

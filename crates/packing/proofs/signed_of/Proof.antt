@@ -10,12 +10,6 @@ use Rattle.packing.proofs.Threes.{signed-above}
 use Rattle.packing.proofs.signed_of.Statement.{statement}
 use Rattle.packing.proofs.signed_of.Tie as tie
 
-cast-result : tie.Need-cast-result
-cast-result c = search needs
-
-cast-result-2 : tie.Need-cast-result-2
-cast-result-2 c = search needs
-
 sub-result : tie.Need-sub-result
 sub-result c = let e = toZ-pos w32 {n = c .before .args .x} (omega arith) in omega signed
 
@@ -28,4 +22,4 @@ returns-2 c =
     rw (toZ-ofZ (sub-result c), e) (signed-above (c .before .args .x) (omega arith))
 
 pub signed-of-spec : {M : Type 1} → statement M
-signed-of-spec = tie.close (tie.spec cast-result cast-result-2 sub-result returns returns-2)
+signed-of-spec = tie.close (tie.spec (λ c. search needs) (λ c. search needs) sub-result returns returns-2)

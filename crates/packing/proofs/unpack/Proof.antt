@@ -32,9 +32,6 @@ mul-t4 c =
 slice-set-from-out : tie.Need-slice-set-from-out Inv-loop μ-loop
 slice-set-from-out c = c .before .loop-test .taken
 
-add-p : tie.Need-add-p Inv-loop μ-loop
-add-p c = search needs
-
 loop-less : tie.Need-loop-less Inv-loop μ-loop
 loop-less c =
     let n = unpacked-length _ _ _ _ (c .before .before .loop .inv) in
@@ -59,15 +56,5 @@ returns c =
 pub unpack-spec : {M : Type 1} → statement M
 unpack-spec =
     tie.close
-    (tie.spec
-    Inv-loop
-    μ-loop
-    loop-holds
-    coefficient-at-requires
-    mul-t4
-    slice-set-from-out
-    add-p
-    loop-less
-    loop-again
-    same-length
-    returns)
+    (tie.spec Inv-loop μ-loop loop-holds coefficient-at-requires mul-t4 slice-set-from-out (λ c. search needs)
+    loop-less loop-again same-length returns)

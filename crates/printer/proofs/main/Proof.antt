@@ -14,35 +14,14 @@ use Rattle.printer.proofs.main.Tie as tie
 fits : (c : tie.After-print) → c .print .result ≤ length (c .print .last .1 .1 .0)
 fits c = puts-within room _ _ _ _ (c .print .ensures) (omega (arith, length-replicate {0} {A = ℕ} room 0))
 
-read-text-requires : tie.Need-read-text-requires
-read-text-requires c κs = search needs
-
-close-requires : tie.Need-close-requires
-close-requires c κs = search needs
-
-print-requires : tie.Need-print-requires
-print-requires c κs = search needs
-
 array-share-prefix-out : tie.Need-array-share-prefix-out
 array-share-prefix-out c = fits c
 
 slice-aggregate-write-all : tie.Need-slice-aggregate-write-all
 slice-aggregate-write-all c = sym (length-take-le _ _ (fits (c .before)))
 
-write-all-requires : tie.Need-write-all-requires
-write-all-requires c κs = search needs
-
-returns : tie.Need-returns
-returns c = search needs
-
 pub main-spec : {M : Type 1} → statement M
 main-spec =
     tie.close
-    (tie.spec
-    read-text-requires
-    close-requires
-    print-requires
-    array-share-prefix-out
-    slice-aggregate-write-all
-    write-all-requires
-    returns)
+    (tie.spec (λ c κs. search needs) (λ c κs. search needs) (λ c κs. search needs) array-share-prefix-out
+    slice-aggregate-write-all (λ c κs. search needs) (λ c. search needs))

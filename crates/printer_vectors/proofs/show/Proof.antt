@@ -14,39 +14,14 @@ use Rattle.printer_vectors.proofs.show.Tie as tie
 fits : (c : tie.After-print) → c .print .result ≤ length (c .print .last .1 .1 .0)
 fits c = puts-within room _ _ _ _ (c .print .ensures) (omega (arith, length-replicate {0} {A = ℕ} room 0))
 
-read-pieces-requires : tie.Need-read-pieces-requires
-read-pieces-requires c κs = search needs
-
-close-requires : tie.Need-close-requires
-close-requires c κs = search needs
-
-print-requires : tie.Need-print-requires
-print-requires c κs = search needs
-
 array-share-prefix-out : tie.Need-array-share-prefix-out
 array-share-prefix-out c = fits c
 
 slice-aggregate-write-all : tie.Need-slice-aggregate-write-all
 slice-aggregate-write-all c = sym (length-take-le _ _ (fits (c .before)))
 
-write-all-requires : tie.Need-write-all-requires
-write-all-requires c κs = search needs
-
-print-end-requires : tie.Need-print-end-requires
-print-end-requires c κs = search needs
-
-returns : tie.Need-returns
-returns c = search needs
-
 pub show-spec : {M : Type 1} → statement M
 show-spec =
     tie.close
-    (tie.spec
-    read-pieces-requires
-    close-requires
-    print-requires
-    array-share-prefix-out
-    slice-aggregate-write-all
-    write-all-requires
-    print-end-requires
-    returns)
+    (tie.spec (λ c κs. search needs) (λ c κs. search needs) (λ c κs. search needs) array-share-prefix-out
+    slice-aggregate-write-all (λ c κs. search needs) (λ c κs. search needs) (λ c. search needs))

@@ -34,9 +34,6 @@ room : (c : tie.Else1) →
     tableShort (a .n) (lent (a .coefficients .now) (a .codes .now)) ≡ false)
 room c = sym (table-found (c .before)) ∙ c .if1 .left
 
-table-short-requires : tie.Need-table-short-requires
-table-short-requires c κs = search needs
-
 -- So both buffers have room for what is unpacked.
 coefficients-fit : (c : tie.Else1) →
     (let a = start c .args in
@@ -50,21 +47,12 @@ returns : tie.Need-returns
 returns c =
     laws.short-table _ _ _ _ _ (startOf (c .before) .pre) (sym (table-found (c .before)) ∙ c .if1 .taken)
 
-examine-requires : tie.Need-examine-requires
-examine-requires c κs = search needs
-
-enum-known-i : tie.Need-enum-known-i
-enum-known-i c = search needs
-
 returns-2 : tie.Need-returns-2
 returns-2 c =
     let examined = c .before .before .before in
     let passed = examined .before in
     laws.unsound-refused _ _ _ _ _ (start passed .pre) (room passed) _ (examined .examine .ensures) _
     (c .before .i .given .1)
-
-enum-told : tie.Need-enum-told
-enum-told c = search needs
 
 slice-relend-prefix-unpack : tie.Need-slice-relend-prefix-unpack
 slice-relend-prefix-unpack c = coefficients-fit (c .before .before .before)
@@ -86,12 +74,6 @@ copy-requires c κs =
     laws.codes-fit (a .n) (a .packed .now) (a .codes-in .now) (a .coefficients .now) (a .codes .now)
     (start passed .pre) (room passed)
 
-same-length : tie.Need-same-length
-same-length c = search needs
-
-same-length-2 : tie.Need-same-length-2
-same-length-2 c = search needs
-
 returns-3 : tie.Need-returns-3
 returns-3 c =
     let unpacked = c .before .before .before .before .before in
@@ -104,17 +86,6 @@ returns-3 c =
 pub read-parts-spec : {M : Type 1} → statement M
 read-parts-spec =
     tie.close
-    (tie.spec
-    table-short-requires
-    returns
-    examine-requires
-    enum-known-i
-    returns-2
-    enum-told
-    slice-relend-prefix-unpack
-    slice-aggregate-unpack
-    unpack-requires
-    copy-requires
-    same-length
-    same-length-2
-    returns-3)
+    (tie.spec (λ c κs. search needs) returns (λ c κs. search needs) (λ c. search needs) returns-2 (λ c. search needs)
+    slice-relend-prefix-unpack slice-aggregate-unpack unpack-requires copy-requires (λ c. search needs)
+    (λ c. search needs) returns-3)

@@ -14,12 +14,6 @@ opened c =
     let c1 = c .before in
     laws.opened _ _ _ (sym (c1 .hours .given .1) ∙ c1 .before .before .open-record .ensures)
 
-open-record-requires : tie.Need-open-record-requires
-open-record-requires c κs = search needs
-
-enum-known-hours : tie.Need-enum-known-hours
-enum-known-hours c = search needs
-
 mul-at : tie.Need-mul-at
 mul-at c =
     let start = c .before .before .before .before .before .before in
@@ -30,12 +24,6 @@ add-at c =
     let start = c .before .before .before .before .before .before in
     omega (arith, laws.record-length _ _ _ (opened c), start .good)
 
-sub-read-parts : tie.Need-sub-read-parts
-sub-read-parts c = search needs
-
-part-read-parts-start : tie.Need-part-read-parts-start
-part-read-parts-start c = search needs
-
 part-read-parts-end : tie.Need-part-read-parts-end
 part-read-parts-end c = omega (arith, laws.record-length _ _ _ (opened c))
 
@@ -45,20 +33,8 @@ sub-read-parts-2 c = omega (arith, laws.record-length _ _ _ (opened (c .before))
 part-read-parts-start-2 : tie.Need-part-read-parts-start-2
 part-read-parts-start-2 c = omega (arith, laws.record-length _ _ _ (opened (c .before)))
 
-part-read-parts-end-2 : tie.Need-part-read-parts-end-2
-part-read-parts-end-2 c = search needs
-
 read-parts-requires : tie.Need-read-parts-requires
 read-parts-requires c κs = laws.packed-table _ _ _ (opened (c .before .before .before .before))
-
-enum-known-why : tie.Need-enum-known-why
-enum-known-why c = search needs
-
-same-length : tie.Need-same-length
-same-length c = search needs
-
-same-length-2 : tie.Need-same-length-2
-same-length-2 c = search needs
 
 returns : tie.Need-returns
 returns c =
@@ -73,20 +49,6 @@ returns-2 c =
 pub read-record-spec : {M : Type 1} → statement M
 read-record-spec =
     tie.close
-    (tie.spec
-    open-record-requires
-    enum-known-hours
-    mul-at
-    add-at
-    sub-read-parts
-    part-read-parts-start
-    part-read-parts-end
-    sub-read-parts-2
-    part-read-parts-start-2
-    part-read-parts-end-2
-    read-parts-requires
-    enum-known-why
-    same-length
-    same-length-2
-    returns
-    returns-2)
+    (tie.spec (λ c κs. search needs) (λ c. search needs) mul-at add-at (λ c. search needs) (λ c. search needs)
+    part-read-parts-end sub-read-parts-2 part-read-parts-start-2 (λ c. search needs) read-parts-requires
+    (λ c. search needs) (λ c. search needs) (λ c. search needs) returns returns-2)

@@ -5,14 +5,8 @@ use Rattle.told.specs.Records.{askingTold}
 use Rattle.sagivelume.proofs.sagivelume_ask.Statement.{statement}
 use Rattle.sagivelume.proofs.sagivelume_ask.Tie as tie
 
-ask-requires : tie.Need-ask-requires
-ask-requires c κs = search needs
-
-of-asking-requires : tie.Need-of-asking-requires
-of-asking-requires c κs = search needs
-
 returns : tie.Need-returns
 returns c = c .of-asking .ensures ∙ ap askingTold (c .before .ask .ensures)
 
 pub sagivelume-ask-spec : {M : Type 1} → statement M
-sagivelume-ask-spec = tie.close (tie.spec ask-requires of-asking-requires returns)
+sagivelume-ask-spec = tie.close (tie.spec (λ c κs. search needs) (λ c κs. search needs) returns)

@@ -6,18 +6,6 @@ use Rattle.told.specs.Columns.{answerTold}
 use Rattle.sagivelume.proofs.sagivelume_join.Statement.{statement}
 use Rattle.sagivelume.proofs.sagivelume_join.Tie as tie
 
-answer-in-requires : tie.Need-answer-in-requires
-answer-in-requires c κs = search needs
-
-answer-in-requires-2 : tie.Need-answer-in-requires-2
-answer-in-requires-2 c κs = search needs
-
-join-requires : tie.Need-join-requires
-join-requires c κs = search needs
-
-of-answer-requires : tie.Need-of-answer-requires
-of-answer-requires c κs = search needs
-
 returns : tie.Need-returns
 returns c =
     let c2 = c .before .before in
@@ -27,4 +15,4 @@ returns c =
 pub sagivelume-join-spec : {M : Type 1} → statement M
 sagivelume-join-spec =
     tie.close
-    (tie.spec answer-in-requires answer-in-requires-2 join-requires of-answer-requires returns)
+    (tie.spec (λ c κs. search needs) (λ c κs. search needs) (λ c κs. search needs) (λ c κs. search needs) returns)

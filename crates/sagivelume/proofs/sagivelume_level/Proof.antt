@@ -3,11 +3,8 @@ use borrow.Author.Needs.{needs}
 use Rattle.sagivelume.proofs.sagivelume_level.Statement.{statement}
 use Rattle.sagivelume.proofs.sagivelume_level.Tie as tie
 
-stretch-requires : tie.Need-stretch-requires
-stretch-requires c κs = search needs
-
 returns : tie.Need-returns
 returns c = c .stretch .ensures
 
 pub sagivelume-level-spec : {M : Type 1} → statement M
-sagivelume-level-spec = tie.close (tie.spec stretch-requires returns)
+sagivelume-level-spec = tie.close (tie.spec (λ c κs. search needs) returns)

@@ -5,15 +5,8 @@ use Rattle.told.specs.Records.{openingTold}
 use Rattle.sagivelume.proofs.sagivelume_open_record.Statement.{statement}
 use Rattle.sagivelume.proofs.sagivelume_open_record.Tie as tie
 
-open-record-requires : tie.Need-open-record-requires
-open-record-requires c κs = search needs
-
-of-opening-requires : tie.Need-of-opening-requires
-of-opening-requires c κs = search needs
-
 returns : tie.Need-returns
 returns c = c .of-opening .ensures ∙ ap openingTold (c .before .open-record .ensures)
 
 pub sagivelume-open-record-spec : {M : Type 1} → statement M
-sagivelume-open-record-spec =
-    tie.close (tie.spec open-record-requires of-opening-requires returns)
+sagivelume-open-record-spec = tie.close (tie.spec (λ c κs. search needs) (λ c κs. search needs) returns)

@@ -5,14 +5,8 @@ use Rattle.told.specs.Columns.{stoppedTold}
 use Rattle.sagivelume.proofs.sagivelume_stopped.Statement.{statement}
 use Rattle.sagivelume.proofs.sagivelume_stopped.Tie as tie
 
-stopped-requires : tie.Need-stopped-requires
-stopped-requires c κs = search needs
-
-of-stopped-requires : tie.Need-of-stopped-requires
-of-stopped-requires c κs = search needs
-
 returns : tie.Need-returns
 returns c = c .of-stopped .ensures ∙ ap stoppedTold (c .before .stopped .ensures)
 
 pub sagivelume-stopped-spec : {M : Type 1} → statement M
-sagivelume-stopped-spec = tie.close (tie.spec stopped-requires of-stopped-requires returns)
+sagivelume-stopped-spec = tie.close (tie.spec (λ c κs. search needs) (λ c κs. search needs) returns)

@@ -4,18 +4,9 @@ use Rattle.sagivelume.proofs.sagivelume_write_record.Statement.{stateme
 use Rattle.sagivelume.proofs.sagivelume_write_record.Tie as tie
 use Rattle.sagivelume.proofs.Handing.{write-told}
 
-write-record-requires : tie.Need-write-record-requires
-write-record-requires c κs = search needs
-
-of-writing-requires : tie.Need-of-writing-requires
-of-writing-requires c κs = search needs
-
-same-length : tie.Need-same-length
-same-length c = search needs
-
 returns : tie.Need-returns
 returns c = write-told _ _ _ _ _ _ _ (c .before .before .before .write-record .ensures) (c .of-writing .ensures)
 
 pub sagivelume-write-record-spec : {M : Type 1} → statement M
 sagivelume-write-record-spec =
-    tie.close (tie.spec write-record-requires of-writing-requires same-length returns)
+    tie.close (tie.spec (λ c κs. search needs) (λ c κs. search needs) (λ c. search needs) returns)

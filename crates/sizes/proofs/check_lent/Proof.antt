@@ -12,9 +12,6 @@ use Rattle.sizes.proofs.check_lent.Tie as tie
 good : (c : tie.Else1) → badHours (c .before .before .before .args .n) ≡ false
 good c = sym (c .before .bad-hours .ensures) ∙ c .if1 .left
 
-bad-hours-requires : tie.Need-bad-hours-requires
-bad-hours-requires c κs = search needs
-
 returns : tie.Need-returns
 returns c =
     let a = c .before .before .before .args in
@@ -23,9 +20,6 @@ returns c =
 
 places-requires : tie.Need-places-requires
 places-requires c κs = good-some _ (good c) .1
-
-table-short-requires : tie.Need-table-short-requires
-table-short-requires c κs = search needs
 
 returns-2 : tie.Need-returns-2
 returns-2 c =
@@ -45,4 +39,4 @@ returns-3 c =
 
 pub check-lent-spec : {M : Type 1} → statement M
 check-lent-spec =
-    tie.close (tie.spec bad-hours-requires returns places-requires table-short-requires returns-2 returns-3)
+    tie.close (tie.spec (λ c κs. search needs) returns places-requires (λ c κs. search needs) returns-2 returns-3)

@@ -15,9 +15,6 @@ abbrev μ-loop : tie.MeasureT-loop
 loop-holds : tie.Need-loop-holds Inv-loop μ-loop
 loop-holds c = power-two (c .args .n)
 
-mul-p : tie.Need-mul-p Inv-loop μ-loop
-mul-p c = omega arith
-
 loop-less : tie.Need-loop-less Inv-loop μ-loop
 loop-less c = omega (arith, c .before .loop .inv .two)
 
@@ -28,4 +25,4 @@ returns : tie.Need-returns Inv-loop μ-loop
 returns c = power-done _ _ (c .before .loop .inv) (omega arith)
 
 pub places-spec : {M : Type 1} → statement M
-places-spec = tie.close (tie.spec Inv-loop μ-loop loop-holds mul-p loop-less loop-again returns)
+places-spec = tie.close (tie.spec Inv-loop μ-loop loop-holds (λ c. omega arith) loop-less loop-again returns)

@@ -19,12 +19,6 @@ loop-holds c = (omega arith, refl)
 mul-p : tie.Need-mul-p Inv-loop μ-loop
 mul-p c = omega (arith, double-fits _ _ (c .before .loop .inv .1) (omega arith))
 
-add-k : tie.Need-add-k Inv-loop μ-loop
-add-k c = omega arith
-
-loop-less : tie.Need-loop-less Inv-loop μ-loop
-loop-less c = omega arith
-
 loop-again : tie.Need-loop-again Inv-loop μ-loop
 loop-again c = (omega arith, double-again _ _ (c .before .loop .inv .1))
 
@@ -33,4 +27,4 @@ returns c = doubled _ _ _ (c .before .loop .inv .1) (c .before .loop .inv .0) (o
 
 pub power-spec : {M : Type 1} → statement M
 power-spec =
-    tie.close (tie.spec Inv-loop μ-loop loop-holds mul-p add-k loop-less loop-again returns)
+    tie.close (tie.spec Inv-loop μ-loop loop-holds mul-p (λ c. omega arith) (λ c. omega arith) loop-again returns)

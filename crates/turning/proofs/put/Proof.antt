@@ -7,18 +7,6 @@ use Rattle.signed.proofs.Widths.{reads-back}
 use Rattle.turning.proofs.put.Statement.{statement}
 use Rattle.turning.proofs.put.Tie as tie
 
-low-of-requires : tie.Need-low-of-requires
-low-of-requires c κs = search needs
-
-mul-t8 : tie.Need-mul-t8
-mul-t8 c = search needs
-
-slice-set-from-out : tie.Need-slice-set-from-out
-slice-set-from-out c = search needs
-
-same-length : tie.Need-same-length
-same-length c = search needs
-
 returns : tie.Need-returns
 returns c = let low = c .low-of in rw (reads-back (low .result) (low .ok) ∙ low .ensures)
 
@@ -26,4 +14,6 @@ returns-2 : tie.Need-returns-2
 returns-2 c = sym (set-out _ _ _ (c .if1 .left))
 
 pub put-spec : {M : Type 1} → statement M
-put-spec = tie.close (tie.spec low-of-requires mul-t8 slice-set-from-out same-length returns returns-2)
+put-spec =
+    tie.close
+    (tie.spec (λ c κs. search needs) (λ c. search needs) (λ c. search needs) (λ c. search needs) returns returns-2)

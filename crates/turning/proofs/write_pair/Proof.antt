@@ -5,30 +5,6 @@ use Rattle.turning.proofs.write_pair.Statement.{statement}
 use Rattle.turning.proofs.write_pair.Tie as tie
 use Rattle.turning.proofs.Writing as laws
 
-add-second : tie.Need-add-second
-add-second c = search needs
-
-shared-slice-read-pair-hours : tie.Need-shared-slice-read-pair-hours
-shared-slice-read-pair-hours c = search needs
-
-pair-hours-requires : tie.Need-pair-hours-requires
-pair-hours-requires c κs = search needs
-
-enum-known-pair : tie.Need-enum-known-pair
-enum-known-pair c = search needs
-
-put-requires : tie.Need-put-requires
-put-requires c κs = search needs
-
-put-requires-2 : tie.Need-put-requires-2
-put-requires-2 c κs = search needs
-
-enum-told : tie.Need-enum-told
-enum-told c = search needs
-
-same-length : tie.Need-same-length
-same-length c = search needs
-
 returns : tie.Need-returns
 returns c =
     let c4 = c .before .before .before .before in
@@ -45,14 +21,5 @@ returns-2 c =
 pub write-pair-spec : {M : Type 1} → statement M
 write-pair-spec =
     tie.close
-    (tie.spec
-    add-second
-    shared-slice-read-pair-hours
-    pair-hours-requires
-    enum-known-pair
-    put-requires
-    put-requires-2
-    enum-told
-    same-length
-    returns
-    returns-2)
+    (tie.spec (λ c. search needs) (λ c. search needs) (λ c κs. search needs) (λ c. search needs) (λ c κs. search needs)
+    (λ c κs. search needs) (λ c. search needs) (λ c. search needs) returns returns-2)

@@ -6,20 +6,8 @@ use Rattle.vector_lines.proofs.lend_grams.Statement.{statement}
 use Rattle.vector_lines.proofs.lend_grams.Tie as tie
 use Rattle.vector_lines.proofs.Within.{within}
 
-number-at-requires : tie.Need-number-at-requires
-number-at-requires c κs = search needs
-
-length-of-requires : tie.Need-length-of-requires
-length-of-requires c κs = search needs
-
-slice-relend-prefix-fill-grams : tie.Need-slice-relend-prefix-fill-grams
-slice-relend-prefix-fill-grams c = search needs
-
 slice-aggregate-fill-grams : tie.Need-slice-aggregate-fill-grams
 slice-aggregate-fill-grams c = within _ _ (c .before .length-of .ensures) .1
-
-fill-grams-requires : tie.Need-fill-grams-requires
-fill-grams-requires c κs = search needs
 
 same-length : tie.Need-same-length
 same-length c = search needs
@@ -31,11 +19,5 @@ returns c =
 pub lend-grams-spec : {M : Type 1} → statement M
 lend-grams-spec =
     tie.close
-    (tie.spec
-    number-at-requires
-    length-of-requires
-    slice-relend-prefix-fill-grams
-    slice-aggregate-fill-grams
-    fill-grams-requires
-    same-length
-    returns)
+    (tie.spec (λ c κs. search needs) (λ c κs. search needs) (λ c. search needs) slice-aggregate-fill-grams
+    (λ c κs. search needs) same-length returns)

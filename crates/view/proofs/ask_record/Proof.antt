@@ -6,18 +6,6 @@ use Rattle.view.proofs.Viewed.{opened-view}
 use Rattle.view.proofs.ask_record.Statement.{statement}
 use Rattle.view.proofs.ask_record.Tie as tie
 
-open-record-requires : tie.Need-open-record-requires
-open-record-requires c κs = search needs
-
-enum-told : tie.Need-enum-told
-enum-told c = search needs
-
-ask-once-requires : tie.Need-ask-once-requires
-ask-once-requires c κs = search needs
-
-enum-known-why : tie.Need-enum-known-why
-enum-known-why c = search needs
-
 returns : tie.Need-returns
 returns c =
     let c1 = c .before in
@@ -31,4 +19,5 @@ returns-2 c =
 
 pub ask-record-spec : {M : Type 1} → statement M
 ask-record-spec =
-    tie.close (tie.spec open-record-requires enum-told ask-once-requires enum-known-why returns returns-2)
+    tie.close
+    (tie.spec (λ c κs. search needs) (λ c. search needs) (λ c κs. search needs) (λ c. search needs) returns returns-2)

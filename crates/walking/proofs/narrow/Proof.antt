@@ -75,9 +75,6 @@ halves c =
     let c3 = c .before .before .before in
     rw (c3 .halves .given .1) at (stepped (c3 .before .before))
 
-copy-node-requires : tie.Need-copy-node-requires Inv-loop μ-loop
-copy-node-requires c κs = search needs
-
 loop-holds : tie.Need-loop-holds Inv-loop μ-loop
 loop-holds c =
     let start = c .before .before in
@@ -86,19 +83,10 @@ loop-holds c =
 is-opened-requires : tie.Need-is-opened-requires Inv-loop μ-loop
 is-opened-requires c κs = ends-early c
 
-is-pair-requires : tie.Need-is-pair-requires Inv-loop μ-loop
-is-pair-requires c κs = search needs
-
 step-requires : tie.Need-step-requires Inv-loop μ-loop
 step-requires c κs =
     let then = steps-from c in
     rw (c .is-pair .ensures) (steps _ _ _ (then .before .before .loop .inv .below) (two-hours then))
-
-enum-known-halves : tie.Need-enum-known-halves Inv-loop μ-loop
-enum-known-halves c = search needs
-
-enum-told : tie.Need-enum-told Inv-loop μ-loop
-enum-told c = search needs
 
 returns : tie.Need-returns Inv-loop μ-loop
 returns c =
@@ -173,25 +161,6 @@ returns-3 c =
 pub narrow-spec : {M : Type 1} → statement M
 narrow-spec =
     tie.close
-    (tie.spec
-    Inv-loop
-    μ-loop
-    copy-node-requires
-    loop-holds
-    is-opened-requires
-    is-pair-requires
-    step-requires
-    enum-known-halves
-    enum-told
-    returns
-    left-half-requires
-    right-half-requires
-    add-opened
-    touches-requires
-    touches-requires-2
-    returns-2
-    loop-less
-    loop-again
-    loop-less-2
-    loop-again-2
-    returns-3)
+    (tie.spec Inv-loop μ-loop (λ c κs. search needs) loop-holds is-opened-requires (λ c κs. search needs) step-requires
+    (λ c. search needs) (λ c. search needs) returns left-half-requires right-half-requires add-opened touches-requires
+    touches-requires-2 returns-2 loop-less loop-again loop-less-2 loop-again-2 returns-3)

@@ -60,14 +60,6 @@ returns-2 c w two told =
 pub step-spec : {M : Type 1} → statement M
 step-spec =
     tie.close
-    (tie.spec
-    pair-halves-requires
-    returns
-    mul-left-number
-    add-right-number
-    mul-half-ranges
-    shared-slice-copy-out-half-ranges
-    mul-half-ranges-2
-    shared-slice-copy-out-half-ranges-2
-    half-ranges-requires
+    (tie.spec pair-halves-requires returns mul-left-number add-right-number mul-half-ranges
+    shared-slice-copy-out-half-ranges mul-half-ranges-2 shared-slice-copy-out-half-ranges-2 half-ranges-requires
     returns-2)

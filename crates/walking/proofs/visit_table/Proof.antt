@@ -30,15 +30,6 @@ shared-slice-copy-out-root-range-2 c =
     let start = c .before .before in
     omega (arith, start .pre .0 .coefficients, 2≤P (start .args .n))
 
-root-range-requires : tie.Need-root-range-requires
-root-range-requires c κs = search needs
-
-enum-known-root : tie.Need-enum-known-root
-enum-known-root c = search needs
-
-enum-told : tie.Need-enum-told
-enum-told c = search needs
-
 returns : tie.Need-returns
 returns c = laws.root-unsound _ _ _ _ _ (root-told (c .before .before) (c .enum-told .given .1))
 
@@ -68,13 +59,5 @@ returns-2 c =
 pub visit-table-spec : {M : Type 1} → statement M
 visit-table-spec =
     tie.close
-    (tie.spec
-    shared-slice-copy-out-root-range
-    shared-slice-copy-out-root-range-2
-    root-range-requires
-    enum-known-root
-    enum-told
-    returns
-    places-requires
-    visit-requires
-    returns-2)
+    (tie.spec shared-slice-copy-out-root-range shared-slice-copy-out-root-range-2 (λ c κs. search needs)
+    (λ c. search needs) (λ c. search needs) returns places-requires visit-requires returns-2)

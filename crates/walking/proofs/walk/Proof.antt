@@ -50,19 +50,10 @@ halves c = rw (c .halves .given .1) at (stepped (c .before .before))
 loop-holds : tie.Need-loop-holds Inv-loop μ-loop
 loop-holds c = laws.at-start _ _ _ _ _ (c .before .pre)
 
-is-pair-requires : tie.Need-is-pair-requires Inv-loop μ-loop
-is-pair-requires c κs = search needs
-
 step-requires : tie.Need-step-requires Inv-loop μ-loop
 step-requires c κs =
     let then = steps-from c in
     rw (c .is-pair .ensures) (steps _ _ _ (then .before .before .loop .inv .below) (then .if1 .taken))
-
-enum-known-halves : tie.Need-enum-known-halves Inv-loop μ-loop
-enum-known-halves c = search needs
-
-enum-told : tie.Need-enum-told Inv-loop μ-loop
-enum-told c = search needs
 
 returns : tie.Need-returns Inv-loop μ-loop
 returns c =
@@ -76,9 +67,6 @@ add-levels : tie.Need-add-levels Inv-loop μ-loop
 add-levels c =
     let here = split-at (c .before) .before .before in
     omega (arith, here .loop .inv .room, here .before .before .pre .codes, here .before .before .good)
-
-takes-left-requires : tie.Need-takes-left-requires Inv-loop μ-loop
-takes-left-requires c κs = search needs
 
 left-half-requires : tie.Need-left-half-requires Inv-loop μ-loop
 left-half-requires c κs = small (split-at (c .before .before .before))
@@ -115,9 +103,6 @@ loop-again-2 c =
     rw (c .right-half .ensures)
     (laws.came-right _ _ _ _ _ _ _ (then .before .before .loop .inv) (then .if1 .taken) _ _ (halves c4) takes)
 
-low-of-requires : tie.Need-low-of-requires Inv-loop μ-loop
-low-of-requires c κs = search needs
-
 returns-2 : tie.Need-returns-2 Inv-loop μ-loop
 returns-2 c =
     let c2 = c .before .before in
@@ -129,22 +114,6 @@ returns-2 c =
 pub walk-spec : {M : Type 1} → statement M
 walk-spec =
     tie.close
-    (tie.spec
-    Inv-loop
-    μ-loop
-    loop-holds
-    is-pair-requires
-    step-requires
-    enum-known-halves
-    enum-told
-    returns
-    add-levels
-    takes-left-requires
-    left-half-requires
-    loop-less
-    loop-again
-    right-half-requires
-    loop-less-2
-    loop-again-2
-    low-of-requires
-    returns-2)
+    (tie.spec Inv-loop μ-loop loop-holds (λ c κs. search needs) step-requires (λ c. search needs) (λ c. search needs)
+    returns add-levels (λ c κs. search needs) left-half-requires loop-less loop-again right-half-requires loop-less-2
+    loop-again-2 (λ c κs. search needs) returns-2)

@@ -29,17 +29,11 @@ both-edged c =
     let a = start .args in
     laws.edged (a .n) (a .a .0) (a .b .0) (a .w) (a .k) (within (c .before .before)) (among c) (start .pre)
 
-bad-window-requires : tie.Need-bad-window-requires
-bad-window-requires c κs = search needs
-
 returns : tie.Need-returns
 returns c =
     let a = c .before .before .args in
     let outside = sym (c .before .bad-window .ensures) ∙ c .if1 .taken in
     laws.bad-window (a .n) (a .a .0) (a .b .0) (a .w) (a .k) outside
-
-bad-column-requires : tie.Need-bad-column-requires
-bad-column-requires c κs = search needs
 
 returns-2 : tie.Need-returns-2
 returns-2 c =
@@ -69,12 +63,5 @@ returns-3 c =
 pub column-of-spec : {M : Type 1} → statement M
 column-of-spec =
     tie.close
-    (tie.spec
-    bad-window-requires
-    returns
-    bad-column-requires
-    returns-2
-    edge-requires
-    add-edge
-    edge-requires-2
+    (tie.spec (λ c κs. search needs) returns (λ c κs. search needs) returns-2 edge-requires add-edge edge-requires-2
     returns-3)

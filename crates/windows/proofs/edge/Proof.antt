@@ -18,21 +18,12 @@ passed c =
     let l≤ : a .b .0 - a .a .0 ≤ largestHours = omega (arith, p .hours) in
     mul-le-mul k≤ l≤
 
-sub-length : tie.Need-sub-length
-sub-length c = search needs
-
 mul-passed : tie.Need-mul-passed
 mul-passed c =
     omega (arith, passed c)
 
-sub-cut : tie.Need-sub-cut
-sub-cut c = search needs
-
 add-cut : tie.Need-add-cut
 add-cut c = omega (arith, passed c, c .before .before .pre .most)
-
-div-cut : tie.Need-div-cut
-div-cut c = search needs
 
 add-hour : tie.Need-add-hour
 add-hour c =
@@ -41,8 +32,8 @@ add-hour c =
     let x = a .k * (a .b .0 - a .a .0) + (a .w - 1) in
     omega (arith, passed (c .before), div-le-self x (a .w), start .pre .most, start .pre .hours, start .pre .ordered)
 
-returns : tie.Need-returns
-returns c = search needs
-
 pub edge-spec : {M : Type 1} → statement M
-edge-spec = tie.close (tie.spec sub-length mul-passed sub-cut add-cut div-cut add-hour returns)
+edge-spec =
+    tie.close
+    (tie.spec (λ c. search needs) mul-passed (λ c. search needs) add-cut (λ c. search needs) add-hour
+    (λ c. search needs))

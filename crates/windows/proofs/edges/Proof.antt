@@ -6,9 +6,6 @@ use Rattle.windows.proofs.Windows as laws
 use Rattle.windows.proofs.edges.Statement.{statement}
 use Rattle.windows.proofs.edges.Tie as tie
 
-bad-hours-requires : tie.Need-bad-hours-requires
-bad-hours-requires c κs = search needs
-
 returns : tie.Need-returns
 returns c =
     let a = c .before .before .args in
@@ -26,4 +23,4 @@ returns-2 c =
     laws.edges-window (a .n) (a .a .0) (a .b .0) (a .w) (a .k) good _ (c .column-of .ensures)
 
 pub edges-spec : {M : Type 1} → statement M
-edges-spec = tie.close (tie.spec bad-hours-requires returns column-of-requires returns-2)
+edges-spec = tie.close (tie.spec (λ c κs. search needs) returns column-of-requires returns-2)

@@ -11,45 +11,6 @@ record-size-requires c κs =
     let start = c .before .before in
     omega (arith, start .pre .coefficients, P-most (start .args .n))
 
-sub-put-header : tie.Need-sub-put-header
-sub-put-header c = search needs
-
-put-header-requires : tie.Need-put-header-requires
-put-header-requires c κs = search needs
-
-mul-at : tie.Need-mul-at
-mul-at c = search needs
-
-add-at : tie.Need-add-at
-add-at c = search needs
-
-sub-pack : tie.Need-sub-pack
-sub-pack c = search needs
-
-part-pack-start : tie.Need-part-pack-start
-part-pack-start c = search needs
-
-part-pack-end : tie.Need-part-pack-end
-part-pack-end c = search needs
-
-pack-requires : tie.Need-pack-requires
-pack-requires c κs = search needs
-
-sub-copy : tie.Need-sub-copy
-sub-copy c = search needs
-
-part-copy-start : tie.Need-part-copy-start
-part-copy-start c = search needs
-
-part-copy-end : tie.Need-part-copy-end
-part-copy-end c = search needs
-
-copy-requires : tie.Need-copy-requires
-copy-requires c κs = search needs
-
-same-length : tie.Need-same-length
-same-length c = search needs
-
 returns : tie.Need-returns
 returns c =
     let c2 = c .before .before in
@@ -63,19 +24,6 @@ returns c =
 pub put-record-spec : {M : Type 1} → statement M
 put-record-spec =
     tie.close
-    (tie.spec
-    record-size-requires
-    sub-put-header
-    put-header-requires
-    mul-at
-    add-at
-    sub-pack
-    part-pack-start
-    part-pack-end
-    pack-requires
-    sub-copy
-    part-copy-start
-    part-copy-end
-    copy-requires
-    same-length
-    returns)
+    (tie.spec record-size-requires (λ c. search needs) (λ c κs. search needs) (λ c. search needs) (λ c. search needs)
+    (λ c. search needs) (λ c. search needs) (λ c. search needs) (λ c κs. search needs) (λ c. search needs)
+    (λ c. search needs) (λ c. search needs) (λ c κs. search needs) (λ c. search needs) returns)

@@ -4,12 +4,6 @@ use Rattle.signed.proofs.Widths.{reads-back}
 use Rattle.told.proofs.columns.of_answer.Statement.{statement}
 use Rattle.told.proofs.columns.of_answer.Tie as tie
 
-enum-told : tie.Need-enum-told
-enum-told c = search needs
-
-enum-known-a : tie.Need-enum-known-a
-enum-known-a c = search needs
-
 returns : tie.Need-returns
 returns c = rw (c .enum-told .given .1)
 
@@ -26,4 +20,4 @@ returns-2 c =
     )
 
 pub of-answer-spec : {M : Type 1} → statement M
-of-answer-spec = tie.close (tie.spec enum-told enum-known-a returns returns-2)
+of-answer-spec = tie.close (tie.spec (λ c. search needs) (λ c. search needs) returns returns-2)

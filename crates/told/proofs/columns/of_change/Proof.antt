@@ -4,21 +4,6 @@ use Rattle.signed.proofs.Widths.{reads-back}
 use Rattle.told.proofs.columns.of_change.Statement.{statement}
 use Rattle.told.proofs.columns.of_change.Tie as tie
 
-enum-told : tie.Need-enum-told
-enum-told c = search needs
-
-enum-known-c : tie.Need-enum-known-c
-enum-known-c c = search needs
-
-enum-known-c-2 : tie.Need-enum-known-c-2
-enum-known-c-2 c = search needs
-
-number-of-requires : tie.Need-number-of-requires
-number-of-requires c κs = search needs
-
-place-of-requires : tie.Need-place-of-requires
-place-of-requires c κs = search needs
-
 returns : tie.Need-returns
 returns c = rw (c .enum-told .given .1)
 
@@ -33,12 +18,5 @@ returns-3 c = rw (c .before .before .before .c2 .given .1, c .before .number-of 
 pub of-change-spec : {M : Type 1} → statement M
 of-change-spec =
     tie.close
-    (tie.spec
-    enum-told
-    enum-known-c
-    enum-known-c-2
-    number-of-requires
-    place-of-requires
-    returns
-    returns-2
-    returns-3)
+    (tie.spec (λ c. search needs) (λ c. search needs) (λ c. search needs) (λ c κs. search needs) (λ c κs. search needs)
+    returns returns-2 returns-3)

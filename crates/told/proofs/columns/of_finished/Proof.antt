@@ -3,24 +3,6 @@ use borrow.Author.Needs.{needs}
 use Rattle.told.proofs.columns.of_finished.Statement.{statement}
 use Rattle.told.proofs.columns.of_finished.Tie as tie
 
-enum-known-f : tie.Need-enum-known-f
-enum-known-f c = search needs
-
-of-answer-requires : tie.Need-of-answer-requires
-of-answer-requires c κs = search needs
-
-enum-known-f-2 : tie.Need-enum-known-f-2
-enum-known-f-2 c = search needs
-
-number-of-requires : tie.Need-number-of-requires
-number-of-requires c κs = search needs
-
-place-of-requires : tie.Need-place-of-requires
-place-of-requires c κs = search needs
-
-of-answer-requires-2 : tie.Need-of-answer-requires-2
-of-answer-requires-2 c κs = search needs
-
 returns : tie.Need-returns
 returns c = rw (c .before .before .f .given .1, c .of-answer .ensures)
 
@@ -37,12 +19,5 @@ returns-2 c =
 pub of-finished-spec : {M : Type 1} → statement M
 of-finished-spec =
     tie.close
-    (tie.spec
-    enum-known-f
-    of-answer-requires
-    enum-known-f-2
-    number-of-requires
-    place-of-requires
-    of-answer-requires-2
-    returns
-    returns-2)
+    (tie.spec (λ c. search needs) (λ c κs. search needs) (λ c. search needs) (λ c κs. search needs)
+    (λ c κs. search needs) (λ c κs. search needs) returns returns-2)

@@ -4,30 +4,6 @@ use Rattle.signed.proofs.Widths.{reads-back}
 use Rattle.told.proofs.columns.of_stopped.Statement.{statement}
 use Rattle.told.proofs.columns.of_stopped.Tie as tie
 
-enum-known-s : tie.Need-enum-known-s
-enum-known-s c = search needs
-
-low-of-requires : tie.Need-low-of-requires
-low-of-requires c κs = search needs
-
-high-of-requires : tie.Need-high-of-requires
-high-of-requires c κs = search needs
-
-low-of-requires-2 : tie.Need-low-of-requires-2
-low-of-requires-2 c κs = search needs
-
-high-of-requires-2 : tie.Need-high-of-requires-2
-high-of-requires-2 c κs = search needs
-
-enum-known-s-2 : tie.Need-enum-known-s-2
-enum-known-s-2 c = search needs
-
-number-of-requires : tie.Need-number-of-requires
-number-of-requires c κs = search needs
-
-place-of-requires : tie.Need-place-of-requires
-place-of-requires c κs = search needs
-
 returns : tie.Need-returns
 returns c =
     let h2 = c .high-of2 in
@@ -52,14 +28,5 @@ returns-2 c = rw (c .before .before .before .s2 .given .1, c .before .number-of 
 pub of-stopped-spec : {M : Type 1} → statement M
 of-stopped-spec =
     tie.close
-    (tie.spec
-    enum-known-s
-    low-of-requires
-    high-of-requires
-    low-of-requires-2
-    high-of-requires-2
-    enum-known-s-2
-    number-of-requires
-    place-of-requires
-    returns
-    returns-2)
+    (tie.spec (λ c. search needs) (λ c κs. search needs) (λ c κs. search needs) (λ c κs. search needs)
+    (λ c κs. search needs) (λ c. search needs) (λ c κs. search needs) (λ c κs. search needs) returns returns-2)

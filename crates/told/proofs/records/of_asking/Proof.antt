@@ -4,18 +4,6 @@ use Rattle.signed.proofs.Widths.{reads-back}
 use Rattle.told.proofs.records.of_asking.Statement.{statement}
 use Rattle.told.proofs.records.of_asking.Tie as tie
 
-enum-known-a : tie.Need-enum-known-a
-enum-known-a c = search needs
-
-enum-known-a-2 : tie.Need-enum-known-a-2
-enum-known-a-2 c = search needs
-
-number-of-requires : tie.Need-number-of-requires
-number-of-requires c κs = search needs
-
-place-of-requires : tie.Need-place-of-requires
-place-of-requires c κs = search needs
-
 returns : tie.Need-returns
 returns c =
     let a = c .before .a .given in
@@ -27,4 +15,4 @@ returns-2 c = rw (c .before .before .before .a2 .given .1, c .before .number-of 
 pub of-asking-spec : {M : Type 1} → statement M
 of-asking-spec =
     tie.close
-    (tie.spec enum-known-a enum-known-a-2 number-of-requires place-of-requires returns returns-2)
+    (tie.spec (λ c. search needs) (λ c. search needs) (λ c κs. search needs) (λ c κs. search needs) returns returns-2)

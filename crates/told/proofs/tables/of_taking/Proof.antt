@@ -3,18 +3,6 @@ use borrow.Author.Needs.{needs}
 use Rattle.told.proofs.tables.of_taking.Statement.{statement}
 use Rattle.told.proofs.tables.of_taking.Tie as tie
 
-enum-told : tie.Need-enum-told
-enum-told c = search needs
-
-enum-known-t : tie.Need-enum-known-t
-enum-known-t c = search needs
-
-number-of-requires : tie.Need-number-of-requires
-number-of-requires c κs = search needs
-
-place-of-requires : tie.Need-place-of-requires
-place-of-requires c κs = search needs
-
 returns : tie.Need-returns
 returns c = rw (c .enum-told .given .1)
 
@@ -24,4 +12,4 @@ returns-2 c = rw (c .before .before .before .t .given .1, c .before .number-of .
 pub of-taking-spec : {M : Type 1} → statement M
 of-taking-spec =
     tie.close
-    (tie.spec enum-told enum-known-t number-of-requires place-of-requires returns returns-2)
+    (tie.spec (λ c. search needs) (λ c. search needs) (λ c κs. search needs) (λ c κs. search needs) returns returns-2)

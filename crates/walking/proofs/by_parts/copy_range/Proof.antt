@@ -4,15 +4,6 @@ use Rattle.signed.proofs.Widths.{reads-back}
 use Rattle.walking.proofs.by_parts.copy_range.Statement.{statement}
 use Rattle.walking.proofs.by_parts.copy_range.Tie as tie
 
-enum-told : tie.Need-enum-told
-enum-told c = search needs
-
-enum-known-range : tie.Need-enum-known-range
-enum-known-range c = search needs
-
-returns : tie.Need-returns
-returns c = search needs
-
 returns-2 : tie.Need-returns-2
 returns-2 c =
     let held = c .before .range .given in
@@ -20,4 +11,4 @@ returns-2 c =
     rw (held .1, reads-back (held .0 .0) (fits .0 .1), reads-back (held .0 .1 .0) (fits .1 .0 .1))
 
 pub copy-range-spec : {M : Type 1} → statement M
-copy-range-spec = tie.close (tie.spec enum-told enum-known-range returns returns-2)
+copy-range-spec = tie.close (tie.spec (λ c. search needs) (λ c. search needs) (λ c. search needs) returns-2)

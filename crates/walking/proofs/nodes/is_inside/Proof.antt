@@ -4,9 +4,6 @@ use borrow.Author.Needs.{needs}
 use Rattle.walking.proofs.nodes.is_inside.Statement.{statement}
 use Rattle.walking.proofs.nodes.is_inside.Tie as tie
 
-add-end : tie.Need-add-end
-add-end c = search needs
-
 returns : tie.Need-returns
 returns c = rw (le-leb _ _ (c .before .if1 .taken))
 
@@ -14,4 +11,4 @@ returns-2 : tie.Need-returns-2
 returns-2 c = rw (lt-leb _ _ (c .if1 .left))
 
 pub is-inside-spec : {M : Type 1} → statement M
-is-inside-spec = tie.close (tie.spec add-end returns returns-2)
+is-inside-spec = tie.close (tie.spec (λ c. search needs) returns returns-2)

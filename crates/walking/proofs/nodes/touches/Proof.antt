@@ -4,18 +4,6 @@ use borrow.Author.Needs.{needs}
 use Rattle.walking.proofs.nodes.touches.Statement.{statement}
 use Rattle.walking.proofs.nodes.touches.Tie as tie
 
-add-end : tie.Need-add-end
-add-end c = search needs
-
-enum-told : tie.Need-enum-told
-enum-told c = search needs
-
-enum-told-2 : tie.Need-enum-told-2
-enum-told-2 c = search needs
-
-returns : tie.Need-returns
-returns c = search needs
-
 returns-2 : tie.Need-returns-2
 returns-2 c =
     let c2 = c .before .before in
@@ -26,4 +14,6 @@ returns-3 : tie.Need-returns-3
 returns-3 c = rw (c .before .before .enum-told2 .given .1, le-ltb _ _ (c .if1 .left))
 
 pub touches-spec : {M : Type 1} → statement M
-touches-spec = tie.close (tie.spec add-end enum-told enum-told-2 returns returns-2 returns-3)
+touches-spec =
+    tie.close
+    (tie.spec (λ c. search needs) (λ c. search needs) (λ c. search needs) (λ c. search needs) returns-2 returns-3)
