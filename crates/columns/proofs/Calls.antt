@@ -1,21 +1,9 @@
 -- Each answer of the calls: the refusal of the check that decides, or the column's own answer. Assumes nothing.
-use mathlib.Core.Path.{_≡_}
-use mathlib.Core.List.{List, [], _∷_}
-use Prim.Native.Nat.{ℕ}
-use lib.IntN.{ℤ}
-use Rattle.words.specs.declared.Column.{Column}
-use Rattle.words.specs.declared.Edges.{Edges}
-use Rattle.words.specs.declared.Finished.{Finished}
-use Rattle.words.specs.declared.Refusal.{Refusal}
-use Rattle.words.specs.declared.Stopped.{Stopped}
-use Rattle.words.specs.declared.Taking.{Taking}
-use Rattle.om3.specs.Series.{levels}
-use Rattle.om3.specs.Table.{Table, lent}
-use Rattle.om3.specs.Checks.{Check, passes, inOrder, answerBy}
-use Rattle.om3.specs.Refusals.{checkDepth}
-use Rattle.om3.specs.Columns.{column}
-use Rattle.om3.specs.Stopped.{openedNodes, examineColumn, stopped}
-use Rattle.om3.specs.Finished.{answer, finishedNodes, finished}
+use Rattle.kit.proofs.{_≡_, List, [], _∷_, ℕ, ℤ}
+use Rattle.words.specs.declared.{Column.Column, Edges.Edges, Finished.Finished, Refusal.Refusal, Stopped.Stopped}
+use Rattle.words.specs.declared.{Taking.Taking}
+use Rattle.om3.specs.Document.{levels, Table, lent, Check, passes, inOrder, answerBy, checkDepth, column, openedNodes}
+use Rattle.om3.specs.Document.{examineColumn, stopped, answer, finishedNodes, finished}
 use Rattle.om3.proofs.Examined.{then-passes}
 use Rattle.columns.specs.Drawing.{StoppedAt, FinishedOver}
 use Rattle.sizes.specs.Lent.{lentCheck}

@@ -1,16 +1,9 @@
 -- The checks of the column calls, in the parts in which the code makes them. Assumes nothing.
-use mathlib.Core.Path.{_≡_, ap, _∙_}
-use mathlib.Core.List.{List, [], _∷_}
-use Prim.Native.Nat.{ℕ}
-use Rattle.words.specs.declared.Refusal.{Refusal}
-use Rattle.words.specs.declared.Edges.{Edges}
-use Rattle.words.specs.declared.Taking.{Taking}
-use Rattle.om3.specs.Table.{Table}
-use Rattle.om3.specs.Checks.{Check, passes, refuses, andThen, inOrder, answerBy}
-use Rattle.om3.specs.Refusals.{checkHours, checkRoom, tableShort, checkWindow, checkColumn}
-use Rattle.om3.specs.Columns.{column}
-use Rattle.om3.proofs.Examined.{in-order-append}
-use Rattle.om3.proofs.Taken.{refused-refuses}
+use Rattle.kit.proofs.{_≡_, ap, _∙_, List, [], _∷_, ℕ}
+use Rattle.words.specs.declared.{Refusal.Refusal, Edges.Edges, Taking.Taking}
+use Rattle.om3.specs.Document.{Table, Check, passes, refuses, andThen, inOrder, answerBy, checkHours, checkRoom}
+use Rattle.om3.specs.Document.{tableShort, checkWindow, checkColumn, column}
+use Rattle.om3.proofs.{Examined.in-order-append, Taken.refused-refuses}
 use Rattle.sizes.specs.Lent.{lentCheck}
 use Rattle.windows.specs.Windows.{windowCheck}
 use Rattle.windows.proofs.Windows.{told, edges-refused}

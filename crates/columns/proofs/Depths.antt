@@ -1,14 +1,9 @@
 -- How many hours a node of level d covers: P divided by the nodes of that level. Assumes nothing.
-use mathlib.Core.Path.{_≡_, ap, _∙_}
-use mathlib.Core.Logic.{⊎-elim}
-use Prim.Native.Nat.{ℕ, _+_, _-_, _/_, _^_, _≤_, _<_}
-use native.Mathlib.Nat.{mul-div-right}
-use native.Mathlib.Omega.{arith}
-use lib.Pow.{pow-pos, pow-mono, pow-lt, pow-add}
-use Rattle.words.specs.Constants.{largestLevel}
-use Rattle.om3.specs.Series.{levels, P}
-use Rattle.om3.proofs.Tests.{below-or-not}
-use Rattle.om3.proofs.Levels.{levels-most}
+use Rattle.kit.proofs.{_≡_, ap, _∙_, ⊎-elim, ℕ, _+_, _-_, _/_, _^_, _≤_, _<_, mul-div-right, arith, pow-pos, pow-mono}
+use Rattle.kit.proofs.{pow-lt, pow-add}
+use Rattle.words.specs.{largestLevel}
+use Rattle.om3.specs.Document.{levels, P}
+use Rattle.om3.proofs.{Tests.below-or-not, Levels.levels-most}
 
 module _ (n d : ℕ) where
   pub over-all : largestLevel < d → levels n < d

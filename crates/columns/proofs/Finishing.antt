@@ -1,44 +1,20 @@
 -- A finished column, for each answer of the visit: a column without an inside node has no reading, and else the walks
 -- begin at its first and at its last inside node. Assumes nothing.
-use mathlib.Core.Path.{_≡_, refl, sym, ap, _∙_}
-use mathlib.Core.Bool.{false}
-use mathlib.Core.List.{List, [], _∷_, _++_, map, map-append, append-nil, flatMap}
-use Prim.Native.Nat.{ℕ, _+_, _-_, _*_, _≤_, _<_}
-use native.Mathlib.Nat.{le-refl}
-use native.Mathlib.Omega.{arith}
-use lib.IntN.{ℤ}
-use lib.Dec.{leb}
-use lib.Pow.{pow-mono}
-use borrow.Author.Tests.{le-leb, lt-leb}
-use Rattle.words.specs.Constants.{largestHours}
-use Rattle.words.specs.declared.Answer.{Answer}
-use Rattle.words.specs.declared.Column.{Column}
-use Rattle.words.specs.declared.Finished.{Finished}
-use Rattle.words.specs.declared.NodeId.{NodeId}
-use Rattle.words.specs.declared.Range.{Range}
-use Rattle.words.specs.declared.Refusal.{Refusal}
-use Rattle.words.specs.declared.Refusal.the-variants.{Unsound}
-use Rattle.om3.specs.Lists.{lastOf}
-use Rattle.om3.specs.Series.{levels}
-use Rattle.om3.specs.Nodes.{Node, InTree, number, width}
-use Rattle.om3.specs.Table.{Table, lent}
-use Rattle.om3.specs.Checks.{Check, passes, andThen, inOrder, answerBy}
-use Rattle.om3.specs.Sound.{soundNode, examine, examineNode, examineNodes, examineRoot}
-use Rattle.om3.specs.Stopped.{openedNodes, countAt, rangeOver, examineColumn}
-use Rattle.om3.specs.Finished.{nodesOf, firstWalk, lastWalk, insideNodes, walksFrom, answer, count, finishedNodes}
-use Rattle.om3.proofs.Levels.{P-most}
-use Rattle.om3.proofs.Examined.{then-assoc, in-order-append}
-use Rattle.om3.proofs.Listed.{All}
+use Rattle.kit.proofs.{_≡_, refl, sym, ap, _∙_, false, List, [], _∷_, _++_, map, map-append, append-nil, flatMap, ℕ}
+use Rattle.kit.proofs.{_+_, _-_, _*_, _≤_, _<_, le-refl, arith, ℤ, leb, pow-mono, le-leb, lt-leb}
+use Rattle.words.specs.{largestHours}
+use Rattle.words.specs.declared.{Answer.Answer, Column.Column, Finished.Finished, NodeId.NodeId, Range.Range}
+use Rattle.words.specs.declared.{Refusal.Refusal, Refusal.the-variants.Unsound}
+use Rattle.om3.specs.Document.{lastOf, levels, Node, InTree, number, width, Table, lent, Check, passes, andThen}
+use Rattle.om3.specs.Document.{inOrder, answerBy, soundNode, examine, examineNode, examineNodes, examineRoot}
+use Rattle.om3.specs.Document.{openedNodes, countAt, rangeOver, examineColumn, nodesOf, firstWalk, lastWalk}
+use Rattle.om3.specs.Document.{insideNodes, walksFrom, answer, count, finishedNodes}
+use Rattle.om3.proofs.{Levels.P-most, Examined.then-assoc, Examined.in-order-append, Listed.All, NeverRefused.last-in}
+use Rattle.om3.proofs.{WithoutHours.none-inside, WithoutHours.none-count}
 use Rattle.om3.proofs.KeptNodes.{NonEmpty, inside-inner, inside-non-empty}
-use Rattle.om3.proofs.NeverRefused.{last-in}
-use Rattle.om3.proofs.WithoutHours.{none-inside, none-count}
+use Rattle.walking.specs.{Seen.innerOver, Seen.tableSeen, Visiting.StopsAt, Visiting.TableVisited}
 use Rattle.walking.specs.Nodes.{reachedOf, At, Below}
-use Rattle.walking.specs.Seen.{innerOver, tableSeen}
-use Rattle.walking.specs.Visiting.{StopsAt, TableVisited}
-use Rattle.walking.specs.declared.Inner.{Inner}
-use Rattle.walking.specs.declared.Reached.{Reached}
-use Rattle.walking.specs.declared.Seen.{Seen}
-use Rattle.walking.specs.declared.Visited.{Visited}
+use Rattle.walking.specs.declared.{Inner.Inner, Reached.Reached, Seen.Seen, Visited.Visited}
 use Rattle.columns.specs.Drawing.{Answers, walksCheck, foundOf, FoundFrom, finishedAnswer, FinishedOver}
 
 pub not-answered : {why : Refusal} {a : Answer} {m : ℕ} → Finished.Refused why ≡ Finished.Answered a m → ⊥

@@ -1,20 +1,10 @@
 -- The walks from the first and from the last inner node, for each of their answers. Assumes nothing.
-use mathlib.Core.Path.{_≡_, refl, sym}
-use mathlib.Core.List.{List}
-use Prim.Native.Nat.{ℕ, _+_, _-_}
-use native.Mathlib.Omega.{arith}
-use lib.IntN.{ℤ}
-use Rattle.words.specs.Said.{lowOf, highOf}
-use Rattle.words.specs.declared.Answer.{Answer}
-use Rattle.words.specs.declared.Finished.{Finished}
-use Rattle.words.specs.declared.NodeId.{NodeId}
-use Rattle.words.specs.declared.Range.{Range}
-use Rattle.words.specs.declared.Reading.{Reading}
-use Rattle.words.specs.declared.Refusal.the-variants.{Unsound}
+use Rattle.kit.proofs.{_≡_, refl, sym, List, ℕ, _+_, _-_, arith, ℤ}
+use Rattle.words.specs.{lowOf, highOf}
+use Rattle.words.specs.declared.{Answer.Answer, Finished.Finished, NodeId.NodeId, Range.Range, Reading.Reading}
+use Rattle.words.specs.declared.{Refusal.the-variants.Unsound}
 use Rattle.walking.specs.Walking.{WalkedFrom}
-use Rattle.walking.specs.declared.Walked.{Walked}
-use Rattle.walking.specs.declared.Reached.{Reached}
-use Rattle.walking.specs.declared.Towards.{Towards}
+use Rattle.walking.specs.declared.{Walked.Walked, Reached.Reached, Towards.Towards}
 use Rattle.columns.specs.Drawing.{Answers, FoundFrom}
 use Rattle.columns.proofs.Finishing.{refused-small}
 

@@ -1,25 +1,13 @@
 -- A column stopped at a depth, for each answer of the visit. Assumes nothing.
-use mathlib.Core.Path.{_≡_, refl, sym}
-use mathlib.Core.List.{List, [], _∷_}
-use Prim.Native.Nat.{ℕ, _+_, _-_, _*_, _^_, _≤_, _<_}
-use lib.IntN.{ℤ}
-use borrow.Author.Tests.{le-leb, lt-leb, lt-ltb, le-ltb}
-use Rattle.words.specs.declared.Column.{Column}
-use Rattle.words.specs.declared.NodeId.{NodeId}
-use Rattle.words.specs.declared.Range.the-variants.{Empty}
-use Rattle.words.specs.declared.Refusal.the-variants.{Unsound, TooDeep}
-use Rattle.words.specs.declared.Stopped.{Stopped}
-use Rattle.om3.specs.Series.{levels}
-use Rattle.om3.specs.Nodes.{Node}
-use Rattle.om3.specs.Table.{Table, lent}
-use Rattle.om3.specs.Checks.{inOrder}
-use Rattle.om3.specs.Stopped.{openedNodes, countAt, rangeOver, examineColumn}
-use Rattle.om3.proofs.Examined.{then-passes}
+use Rattle.kit.proofs.{_≡_, refl, sym, List, [], _∷_, ℕ, _+_, _-_, _*_, _^_, _≤_, _<_, ℤ, le-leb, lt-leb, lt-ltb}
+use Rattle.kit.proofs.{le-ltb}
+use Rattle.words.specs.declared.{Column.Column, NodeId.NodeId, Range.the-variants.Empty, Refusal.the-variants.Unsound}
+use Rattle.words.specs.declared.{Refusal.the-variants.TooDeep, Stopped.Stopped}
+use Rattle.om3.specs.Document.{levels, Node, Table, lent, inOrder, openedNodes, countAt, rangeOver, examineColumn}
+use Rattle.om3.proofs.{Examined.then-passes}
 use Rattle.om3.proofs.WithoutHours.{none-outer, none-inner, none-count}
-use Rattle.walking.specs.Seen.{innerOver}
-use Rattle.walking.specs.Visiting.{StopsAt, TableVisited}
-use Rattle.walking.specs.declared.Seen.{Seen}
-use Rattle.walking.specs.declared.Visited.{Visited}
+use Rattle.walking.specs.{Seen.innerOver, Visiting.StopsAt, Visiting.TableVisited}
+use Rattle.walking.specs.declared.{Seen.Seen, Visited.Visited}
 use Rattle.columns.specs.Drawing.{innerRange, StoppedOver, StoppedAt}
 
 -- The range of inner nodes is the range over them.

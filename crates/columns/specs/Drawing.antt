@@ -9,29 +9,18 @@
 --   walksCheck, foundOf    the examination of the walks from node u and from node v, and the answer they lead to
 --   FoundFrom              the contract of the walks from the first and the last inner node
 --   FinishedOver           the contract of a finished column, its buffers lent
-use mathlib.Core.Path.{_≡_}
+use mathlib.Core.{Path._≡_}
 use mathlib.Core.List.{List, [], _∷_}
 use Prim.Native.Nat.{ℕ, _+_, _-_, _^_, _≤_}
 use lib.IntN.{ℤ}
-use Rattle.words.specs.Said.{lowOf, highOf}
-use Rattle.words.specs.declared.Column.{Column}
-use Rattle.words.specs.declared.Range.{Range}
-use Rattle.words.specs.declared.Range.the-variants.{Empty}
-use Rattle.words.specs.declared.Answer.{Answer}
-use Rattle.words.specs.declared.Finished.{Finished}
-use Rattle.words.specs.declared.Stopped.{Stopped}
-use Rattle.om3.specs.Series.{levels}
-use Rattle.om3.specs.Nodes.{Node}
-use Rattle.om3.specs.Table.{Table, lent}
-use Rattle.om3.specs.Checks.{Check, andThen, inOrder, answerBy}
-use Rattle.om3.specs.Sound.{examineNodes}
-use Rattle.om3.specs.Refusals.{checkDepth}
-use Rattle.om3.specs.Stopped.{openedNodes, countAt, outer, inner, examineColumn}
-use Rattle.om3.specs.Finished.{nodesOf, endOf, firstWalk, lastWalk, readingAt, answer, count, finishedNodes}
-use Rattle.walking.specs.Nodes.{At}
-use Rattle.walking.specs.Walking.{Small}
-use Rattle.walking.specs.declared.Inner.{Inner}
-use Rattle.walking.specs.declared.Reached.{Reached}
+use Rattle.words.specs.{lowOf, highOf}
+use Rattle.words.specs.declared.{Column.Column, Range.Range, Range.the-variants.Empty, Answer.Answer, Finished.Finished}
+use Rattle.words.specs.declared.{Stopped.Stopped}
+use Rattle.om3.specs.Document.{levels, Node, Table, lent, Check, andThen, inOrder, answerBy, examineNodes, checkDepth}
+use Rattle.om3.specs.Document.{openedNodes, countAt, outer, inner, examineColumn, nodesOf, endOf, firstWalk, lastWalk}
+use Rattle.om3.specs.Document.{readingAt, answer, count, finishedNodes}
+use Rattle.walking.specs.{Nodes.At, Walking.Small}
+use Rattle.walking.specs.declared.{Inner.Inner, Reached.Reached}
 
 -- No nodes: the empty range. [columns 11]
 abbrev pub innerRange : Inner → Range

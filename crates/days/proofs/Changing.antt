@@ -1,26 +1,12 @@
 -- The checks of the day change, in the parts in which the code makes them, and each of its answers. Assumes nothing.
-use mathlib.Core.Path.{_≡_, refl, sym, _∙_}
-use mathlib.Core.List.{List, [], _∷_}
-use Prim.Native.Nat.{ℕ, _*_, _≤_, _<_}
-use lib.IntN.{ℤ}
-use borrow.Author.Tests.{le-leb, lt-leb}
-use Rattle.words.specs.Constants.{dayHours}
-use Rattle.words.specs.declared.Answer.{Answer}
-use Rattle.words.specs.declared.Column.{Column}
-use Rattle.words.specs.declared.DayChange.{DayChange}
-use Rattle.words.specs.declared.Finished.{Finished}
-use Rattle.words.specs.declared.Refusal.{Refusal}
-use Rattle.words.specs.declared.Refusal.the-variants.{BadWindow}
-use Rattle.words.specs.declared.Taking.{Taking}
-use Rattle.om3.specs.Series.{levels}
-use Rattle.om3.specs.Table.{Table, lent}
-use Rattle.om3.specs.Checks.{Check, passes, refuses, andThen, inOrder, answerBy}
-use Rattle.om3.specs.Refusals.{checkHours, checkRoom, tableShort, checkDay}
-use Rattle.om3.specs.Stopped.{examineColumn}
-use Rattle.om3.specs.Finished.{answer, finishedNodes}
-use Rattle.om3.specs.Days.{day, changeOf, dayChange}
-use Rattle.om3.proofs.Examined.{then-passes, in-order-append}
-use Rattle.om3.proofs.Taken.{refused-refuses}
+use Rattle.kit.proofs.{_≡_, refl, sym, _∙_, List, [], _∷_, ℕ, _*_, _≤_, _<_, ℤ, le-leb, lt-leb}
+use Rattle.words.specs.{dayHours}
+use Rattle.words.specs.declared.{Answer.Answer, Column.Column, DayChange.DayChange, Finished.Finished, Refusal.Refusal}
+use Rattle.words.specs.declared.{Refusal.the-variants.BadWindow, Taking.Taking}
+use Rattle.om3.specs.Document.{levels, Table, lent, Check, passes, refuses, andThen, inOrder, answerBy, checkHours}
+use Rattle.om3.specs.Document.{checkRoom, tableShort, checkDay, examineColumn, answer, finishedNodes, day, changeOf}
+use Rattle.om3.specs.Document.{dayChange}
+use Rattle.om3.proofs.{Examined.then-passes, Examined.in-order-append, Taken.refused-refuses}
 use Rattle.sizes.specs.Lent.{lentCheck}
 use Rattle.columns.specs.Drawing.{finishedAnswer, FinishedOver}
 use Rattle.columns.proofs.Finishing.{not-answered}

@@ -1,20 +1,10 @@
 -- The hours of a day and its change. Assumes nothing.
-use mathlib.Core.Path.{_≡_, ap}
-use Prim.Native.Nat.{ℕ, _+_, _*_, _^_, _≤_, _<_, min}
-use native.Mathlib.Omega.{arith}
-use lib.IntN.{ℤ, pos, negsuc, negℤ, _-ℤ_}
-use lib.Signed.{mag, _≤ℤ_}
-use mir.Syntax.{w32}
-use mir.Val.{SFits, toZ, ofZ}
-use Rattle.signed.proofs.Sums.{sub-parts}
-use Rattle.signed.proofs.Rules.{signed}
-use Rattle.signed.proofs.Widths.{reads-back}
-use Rattle.words.specs.Constants.{largestReading, gapMark, dayHours}
-use Rattle.words.specs.declared.Answer.{Answer}
-use Rattle.words.specs.declared.Column.{Column}
-use Rattle.words.specs.declared.Summary.{Summary}
-use Rattle.om3.specs.Series.{hour}
-use Rattle.om3.specs.Days.{day}
+use Rattle.kit.proofs.{_≡_, ap, ℕ, _+_, _*_, _^_, _≤_, _<_, min, arith, ℤ, pos, negsuc, negℤ, _-ℤ_, mag, _≤ℤ_, w32}
+use Rattle.kit.proofs.{SFits, toZ, ofZ}
+use Rattle.signed.proofs.{sub-parts, signed, reads-back}
+use Rattle.words.specs.{largestReading, gapMark, dayHours}
+use Rattle.words.specs.declared.{Answer.Answer, Column.Column, Summary.Summary}
+use Rattle.om3.specs.Document.{hour, day}
 use Rattle.walking.specs.Walking.{Small}
 use Rattle.columns.specs.Drawing.{SmallAnswer}
 

@@ -1,11 +1,7 @@
 -- What the answer of a step down says: the node is unsound, or it is sound and these are its halves. Assumes nothing.
-use mathlib.Core.Path.{_≡_, refl}
-use mathlib.Core.Bool.{Bool, true, false, cond}
-use Prim.Native.Nat.{ℕ}
-use native.Mathlib.Omega.{arith}
+use Rattle.kit.proofs.{_≡_, refl, Bool, true, false, cond, ℕ, arith}
 use Rattle.words.specs.declared.Range.{Range}
-use Rattle.node.specs.declared.Halves.{Halves}
-use Rattle.node.specs.declared.Root.{Root}
+use Rattle.node.specs.declared.{Halves.Halves, Root.Root}
 
 -- The test passed, and the two halves a and b are x and y.
 pub record Stepped (s : Bool) (x y a b : Range) : Type 0 where

@@ -1,27 +1,14 @@
 -- Node 0 and node 1: the range that the root values give, and the examination of a whole table from there.
 -- Assumes nothing.
-use mathlib.Core.Path.{_≡_, sym, _∙_}
-use mathlib.Core.List.{List}
-use Prim.Native.Nat.{ℕ, _-_, _*_, _/_, _^_, _≤_, _<_}
-use native.Mathlib.Omega.{arith}
-use lib.IntN.{ℤ, pos}
-use lib.ListN.{length, getD}
-use lib.Signed.{mag}
-use mir.Syntax.{w32}
-use mir.Val.{toZ, ofZ}
-use Rattle.signed.proofs.Widths.{reads-back}
+use Rattle.kit.proofs.{_≡_, sym, _∙_, List, ℕ, _-_, _*_, _/_, _^_, _≤_, _<_, arith, ℤ, pos, length, getD, mag, w32, toZ}
+use Rattle.kit.proofs.{ofZ}
+use Rattle.signed.proofs.{reads-back}
 use Rattle.words.specs.declared.Range.{Range}
-use Rattle.words.specs.Bounds.{Readings}
-use Rattle.om3.specs.Series.{levels, P}
-use Rattle.om3.specs.Nodes.{root}
-use Rattle.om3.specs.Table.{Table, lent}
-use Rattle.om3.specs.Down.{rootRange, reachedAt, reached}
-use Rattle.om3.specs.Checks.{inOrder}
-use Rattle.om3.specs.Sound.{soundRootValues, examine}
-use Rattle.om3.specs.Refusals.{examineTable}
-use Rattle.om3.proofs.Levels.{P-even}
+use Rattle.words.specs.{Readings}
+use Rattle.om3.specs.Document.{levels, P, root, Table, lent, rootRange, reachedAt, reached, inOrder, soundRootValues}
+use Rattle.om3.specs.Document.{examine, examineTable}
+use Rattle.om3.proofs.{Levels.P-even, SoundDetails.root-values}
 use Rattle.node.proofs.Located.{root-located}
-use Rattle.om3.proofs.SoundDetails.{root-values}
 use Rattle.node.specs.declared.Root.{Root}
 use Rattle.node.specs.Steps.{rootOf}
 use Rattle.examining.specs.declared.Verdict.{Verdict}

@@ -1,29 +1,18 @@
 -- What the examination below a node promises, at a pair and at a node of two halves, for each of its answers. Assumes
 -- nothing.
-use mathlib.Core.Path.{_≡_, refl, sym, ap, _∙_}
-use mathlib.Core.Bool.{Bool, true, false, _&&_}
-use mathlib.Core.List.{List, map, map-append}
-use Prim.Native.Nat.{ℕ, suc, _+_, _-_, _*_, _/_, _^_, _≤_, _<_}
-use native.Mathlib.Omega.{arith}
-use lib.IntN.{ℤ, pos}
-use lib.ListN.{getD}
-use Rattle.words.specs.declared.NodeId.{NodeId}
-use Rattle.words.specs.declared.Range.{Range}
-use Rattle.words.specs.Bounds.{Readings}
-use Rattle.om3.specs.Series.{hour}
-use Rattle.om3.specs.Nodes.{Node, number, left, right, start}
-use Rattle.om3.specs.Table.{Table, lent}
-use Rattle.om3.specs.Down.{leftHalf, rightHalf, firstOfPair, secondOfPair, reached}
-use Rattle.om3.specs.Checks.{Check, andThen, inOrder}
-use Rattle.om3.specs.Sound.{soundDetails, soundCode, gapFrom, soundNode, nodesBelow, examineNode, examineNodes}
-use Rattle.node.specs.Located.{Located}
+use Rattle.kit.proofs.{_≡_, refl, sym, ap, _∙_, Bool, true, false, _&&_, List, map, map-append, ℕ, suc, _+_, _-_, _*_}
+use Rattle.kit.proofs.{_/_, _^_, _≤_, _<_, arith, ℤ, pos, getD}
+use Rattle.words.specs.declared.{NodeId.NodeId, Range.Range}
+use Rattle.words.specs.{Readings}
+use Rattle.om3.specs.Document.{hour, Node, number, left, right, start, Table, lent, leftHalf, rightHalf, firstOfPair}
+use Rattle.om3.specs.Document.{secondOfPair, reached, Check, andThen, inOrder, soundDetails, soundCode, gapFrom}
+use Rattle.om3.specs.Document.{soundNode, nodesBelow, examineNode, examineNodes}
+use Rattle.node.specs.{Located.Located, Steps.halvesOf, Steps.pairOf}
 use Rattle.om3.proofs.Nodes.{pair-yes, pair-no, pair-half, start-hour}
 use Rattle.node.proofs.Located.{above-hours, above-pairs, at-pair, pair-width, left-located, right-located}
-use Rattle.om3.proofs.Reached.{reached-left, reached-right}
-use Rattle.om3.proofs.SoundDetails.{details}
-use Rattle.om3.proofs.Examined.{in-order-append, then-passes}
+use Rattle.om3.proofs.{Reached.reached-left, Reached.reached-right, SoundDetails.details, Examined.in-order-append}
+use Rattle.om3.proofs.{Examined.then-passes}
 use Rattle.node.specs.declared.Halves.{Halves}
-use Rattle.node.specs.Steps.{halvesOf, pairOf}
 use Rattle.examining.specs.declared.Verdict.{Verdict}
 use Rattle.examining.specs.Examining.{checkOf, pairAt, Examined, PairExamined, PairsExamined}
 use Rattle.examining.proofs.Answers.{Stepped, stepped, not-stepped}

@@ -1,15 +1,9 @@
 -- A packed table is examined as the table unpacked from it: each coefficient that is read from its three bytes is the
 -- one that stands at its place there. Assumes nothing.
-use mathlib.Core.Path.{_≡_, sym}
-use mathlib.Core.List.{List}
-use Prim.Native.Nat.{ℕ, _+_, _*_, _/_, _≤_, _<_}
-use native.Mathlib.Omega.{arith}
-use lib.IntN.{ℤ, pos}
-use lib.ListN.{length, getD}
+use Rattle.kit.proofs.{_≡_, sym, List, ℕ, _+_, _*_, _/_, _≤_, _<_, arith, ℤ, pos, length, getD}
 use Rattle.words.specs.declared.Range.{Range}
 use Rattle.om3.proofs.Lists.{map-up-length, map-up-from-0}
-use Rattle.node.specs.declared.Halves.{Halves}
-use Rattle.node.specs.declared.Root.{Root}
+use Rattle.node.specs.declared.{Halves.Halves, Root.Root}
 use Rattle.node.specs.Steps.{halvesOf, rootOf}
 use Rattle.packing.specs.Packing.{coefficientFrom, unpacked}
 

@@ -1,23 +1,10 @@
 -- When there is a level j of details, by the tests that the code makes, and where its stretch lies. Assumes nothing.
-use mathlib.Core.Path.{_≡_}
-use mathlib.Core.Bool.{Bool, true, false}
-use mathlib.Core.List.{List}
-use mathlib.Core.Logic.{⊎-elim}
-use Prim.Native.Nat.{ℕ, suc, _+_, _-_, _*_, _^_, _≤_, _<_}
-use native.Mathlib.Nat.{two-pow-succ}
-use native.Mathlib.Omega.{arith}
-use lib.IntN.{ℤ}
-use lib.ListN.{length, take, drop}
-use lib.Dec.{leb}
-use lib.Pow.{pow-mono, pow-pos}
-use borrow.Author.Tests.{lt-ltb, le-ltb, le-leb, lt-leb}
-use Rattle.words.specs.Constants.{largestLevel, largestHours}
+use Rattle.kit.proofs.{_≡_, Bool, true, false, List, ⊎-elim, ℕ, suc, _+_, _-_, _*_, _^_, _≤_, _<_, two-pow-succ, arith}
+use Rattle.kit.proofs.{ℤ, length, take, drop, leb, pow-mono, pow-pos, lt-ltb, le-ltb, le-leb, lt-leb}
+use Rattle.words.specs.{largestLevel, largestHours}
 use Rattle.words.specs.declared.Stretch.{Stretch}
-use Rattle.om3.specs.Series.{badHours, levels, P}
-use Rattle.om3.specs.Level.{hasLevel, levelStretch, placesOf}
-use Rattle.om3.proofs.Tests.{below-or-not}
-use Rattle.om3.proofs.Levels.{levels-most}
-use Rattle.om3.proofs.Answers.{stretch-within}
+use Rattle.om3.specs.Document.{badHours, levels, P, hasLevel, levelStretch, placesOf}
+use Rattle.om3.proofs.{Tests.below-or-not, Levels.levels-most, Answers.stretch-within}
 
 abbrev none : Stretch
 none = record { start = 0; length = 0 }

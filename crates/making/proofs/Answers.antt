@@ -1,29 +1,16 @@
 -- What `make` promises at each of its answers: the checks in their order, and the whole table. Assumes nothing.
-use mathlib.Core.Path.{_≡_, _∙_}
-use mathlib.Core.Bool.{true, false, _||_}
-use mathlib.Core.List.{List}
-use Prim.Native.Nat.{ℕ, _≤_, _<_}
-use lib.IntN.{ℤ}
-use lib.ListN.{length, set}
-use borrow.Author.Tests.{lt-ltb, le-ltb}
-use Rattle.words.specs.Said.{lowOf, highOf}
-use Rattle.words.specs.declared.Range.{Range}
-use Rattle.words.specs.declared.Refusal.{Refusal}
-use Rattle.words.specs.declared.Refusal.the-variants.{BadHours, ShortBuffer}
-use Rattle.words.specs.declared.Taking.{Taking}
-use Rattle.om3.specs.Series.{badHours, levels, P}
-use Rattle.om3.specs.Nodes.{root}
-use Rattle.om3.specs.Table.{Table, lent}
-use Rattle.om3.specs.Checks.{refuses, inOrder, answerBy}
-use Rattle.om3.specs.Refusals.{short, tableShort, checkReadings}
-use Rattle.om3.specs.Calls.{makingChecks}
+use Rattle.kit.proofs.{_≡_, _∙_, true, false, _||_, List, ℕ, _≤_, _<_, ℤ, length, set, lt-ltb, le-ltb}
+use Rattle.words.specs.{lowOf, highOf}
+use Rattle.words.specs.declared.{Range.Range, Refusal.Refusal, Refusal.the-variants.BadHours}
+use Rattle.words.specs.declared.{Refusal.the-variants.ShortBuffer, Taking.Taking}
+use Rattle.om3.specs.Document.{badHours, levels, P, root, Table, lent, refuses, inOrder, answerBy, short, tableShort}
+use Rattle.om3.specs.Document.{checkReadings, makingChecks}
 use Rattle.sizes.specs.Lent.{TableLent}
-use Rattle.om3.proofs.Levels.{levels-some}
-use Rattle.node.proofs.Located.{root-located}
+use Rattle.om3.proofs.{Levels.levels-some}
 use Rattle.om3.proofs.Taken.{taken-passes, refused-refuses, making-decided}
+use Rattle.node.proofs.Located.{root-located}
 use Rattle.making.specs.Making.{Filled, Tabled, Made}
-use Rattle.making.proofs.Details.{coefficients-made}
-use Rattle.making.proofs.Codes.{codes-made}
+use Rattle.making.proofs.{Details.coefficients-made, Codes.codes-made}
 
 -- The recursion over node 1, with its low and high written, leaves the table.
 module _ (n : ℕ) (s : List ℤ) (p : ℕ) (cs cs₁ : List ℤ) (ks ks₁ : List ℕ) (r : Range) where

@@ -1,11 +1,7 @@
 -- From how the code carries a node, by its number, its first hour and how many hours it covers, to its place in the
 -- tree. Assumes nothing.
-use mathlib.Core.Path.{_≡_, refl, _∙_}
-use mathlib.Core.Logic.{⊎-elim}
-use Prim.Native.Nat.{ℕ, suc, _+_, _-_, _*_, _/_, _^_, _≤_, _<_}
-use native.Mathlib.Omega.{arith}
-use lib.Pow.{pow-mono}
-use Rattle.om3.specs.Nodes.{Node, root, left, right, width}
+use Rattle.kit.proofs.{_≡_, refl, _∙_, ⊎-elim, ℕ, suc, _+_, _-_, _*_, _/_, _^_, _≤_, _<_, arith, pow-mono}
+use Rattle.om3.specs.Document.{Node, root, left, right, width}
 use Rattle.om3.proofs.Tests.{below-or-not}
 use Rattle.om3.proofs.Nodes.{start-root, width-root, width-half, width-right, start-left, start-right}
 use Rattle.om3.proofs.Nodes.{number-left, number-right, left-in, right-in}

@@ -1,9 +1,6 @@
 -- The places of a node that covers n hours, and of its halves, lie within a buffer that has room for all below it.
 -- Assumes nothing.
-use mathlib.Core.Path.{_≡_, ap, _∙_}
-use Prim.Native.Nat.{ℕ, _+_, _*_, _/_, _≤_}
-use native.Mathlib.Nat.{mul-assoc, mul-le-mul-left, mul-le-mul-right}
-use native.Mathlib.Omega.{arith}
+use Rattle.kit.proofs.{_≡_, ap, _∙_, ℕ, _+_, _*_, _/_, _≤_, mul-assoc, mul-le-mul-left, mul-le-mul-right, arith}
 
 pub places-room : (i w size : ℕ) → 2 ≤ w → (i + 1) * w ≤ size → 2 * i + 2 ≤ size
 places-room i w size h room = omega (arith, mul-le-mul-left (i + 1) h)

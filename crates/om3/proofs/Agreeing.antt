@@ -1,24 +1,14 @@
 -- Two tables that agree at the places of a table of l levels reach the same ranges, and one is sound if the other is:
 -- what lies beyond is not looked at. Assumes nothing.
-use mathlib.Core.Path.{_≡_, _∙_}
-use mathlib.Core.Bool.{true, cond}
-use mathlib.Core.Logic.{⊎-elim}
-use Prim.Native.Nat.{ℕ, zero, suc, _+_, _-_, _*_, _/_, _%_, _^_, _≤_, _<_}
-use native.Mathlib.Nat.{two-pow-succ, eq-or-lt-of-le}
-use native.Mathlib.Omega.{arith}
-use lib.Dec.{eqb}
-use lib.ListN.{getD}
-use lib.Pow.{pow-pos, pow-mono}
+use Rattle.kit.proofs.{_≡_, _∙_, true, cond, ⊎-elim, ℕ, zero, suc, _+_, _-_, _*_, _/_, _%_, _^_, _≤_, _<_, two-pow-succ}
+use Rattle.kit.proofs.{eq-or-lt-of-le, arith, eqb, getD, pow-pos, pow-mono}
 use Rattle.words.specs.declared.Range.{Range}
-use Rattle.om3.specs.Lists.{every}
-use Rattle.om3.specs.Nodes.{Node, InTree, number}
-use Rattle.om3.specs.Table.{Table}
-use Rattle.om3.specs.Down.{coefficientAt, lowDetailAt, highDetailAt, codeAt, leftOf, rightOf}
-use Rattle.om3.specs.Down.{reachedAt}
-use Rattle.om3.specs.Sound.{soundRootValues, soundNode, tableNodes, soundTable}
+use Rattle.om3.specs.Document.{every, Node, InTree, number, Table, coefficientAt, lowDetailAt, highDetailAt}
+use Rattle.om3.specs.Document.{codeAt, leftOf, rightOf, reachedAt, soundRootValues, soundNode, tableNodes}
+use Rattle.om3.specs.Document.{soundTable}
 use Rattle.om3.proofs.Tests.{and-left, and-right, both-true}
-use Rattle.om3.proofs.Nodes.{pair-yes, pair-no, detail-room, code-room}
 use Rattle.om3.proofs.NodeLists.{table-from-each, each-in-table}
+use Rattle.om3.proofs.Nodes.{pair-yes, pair-no, detail-room, code-room}
 
 pub record Agree (l : ℕ) (t u : Table) : Type 0 where
   pub coefficients : (p : ℕ) → p < 2 ^ l → coefficientAt t p ≡ coefficientAt u p

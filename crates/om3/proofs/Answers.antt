@@ -1,21 +1,10 @@
 -- Laws of the smaller definitions: one level's stretch, joining, the day. Assumes nothing.
-use mathlib.Core.Path.{_≡_, refl}
-use mathlib.Core.Bool.{Bool, true, false, cond, not, _||_}
-use Prim.Native.Nat.{ℕ, suc, _+_, _*_, _^_, _≤_, _<_}
-use native.Mathlib.Nat.{two-pow-succ}
-use native.Mathlib.Omega.{arith}
-use lib.Dec.{leb}
-use lib.Pow.{pow-mono}
-use borrow.Author.Tests.{leb-true, ltb-false, not-true}
-use Rattle.words.specs.Constants.{dayHours}
-use Rattle.words.specs.declared.Stretch.{Stretch}
-use Rattle.words.specs.declared.Answer.{Answer}
-use Rattle.words.specs.declared.Answer.the-variants.{NoReading, Found}
-use Rattle.om3.specs.Series.{badHours, levels, P}
-use Rattle.om3.specs.Refusals.{short}
-use Rattle.om3.specs.Level.{hasLevel, levelStretch}
-use Rattle.om3.specs.Joined.{joined}
-use Rattle.om3.specs.Days.{day}
+use Rattle.kit.proofs.{_≡_, refl, Bool, true, false, cond, not, _||_, ℕ, suc, _+_, _*_, _^_, _≤_, _<_, two-pow-succ}
+use Rattle.kit.proofs.{arith, leb, pow-mono, leb-true, ltb-false, not-true}
+use Rattle.words.specs.{dayHours}
+use Rattle.words.specs.declared.{Stretch.Stretch, Answer.Answer, Answer.the-variants.NoReading}
+use Rattle.words.specs.declared.{Answer.the-variants.Found}
+use Rattle.om3.specs.Document.{badHours, levels, P, short, hasLevel, levelStretch, joined, day}
 use Rattle.om3.proofs.Tests.{and-left, and-right, neither}
 
 -- A level's stretch lies within what is lent. [level 1]

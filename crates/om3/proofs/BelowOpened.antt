@@ -2,22 +2,12 @@
 -- only below opened nodes: an opened node gives what its two halves give, and below any other visited node there is
 -- nothing.
 -- Assumes nothing.
-use mathlib.Core.Path.{_≡_, refl, sym, ap, _∙_}
-use mathlib.Core.Bool.{Bool, true, false, cond, _&&_, and-false}
-use mathlib.Core.List.{List, [], _∷_, _++_}
-use Prim.Native.Nat.{ℕ, zero, suc, _+_, _-_, _*_, _/_, _≤_, _<_}
-use native.Mathlib.Omega.{arith}
-use borrow.Author.Tests.{ne-eqb}
+use Rattle.kit.proofs.{_≡_, refl, sym, ap, _∙_, Bool, true, false, cond, _&&_, and-false, List, [], _∷_, _++_, ℕ, zero}
+use Rattle.kit.proofs.{suc, _+_, _-_, _*_, _/_, _≤_, _<_, arith, ne-eqb}
 use Rattle.words.specs.declared.Column.{Column}
-use Rattle.om3.specs.Lists.{keep}
-use Rattle.om3.specs.Nodes.{Node, root, left, right}
-use Rattle.om3.specs.Ranges.{both}
-use Rattle.om3.specs.Table.{Table}
-use Rattle.om3.specs.Down.{reached}
-use Rattle.om3.specs.Sound.{nodesBelow}
-use Rattle.om3.specs.Stopped.{hasReading, shares, inside, opened, visited, rangeOver, isOuter, isInner}
-use Rattle.om3.proofs.Lists.{keep-append}
-use Rattle.om3.proofs.Ranges.{both-assoc}
+use Rattle.om3.specs.Document.{keep, Node, root, left, right, both, Table, reached, nodesBelow, hasReading}
+use Rattle.om3.specs.Document.{shares, inside, opened, visited, rangeOver, isOuter, isInner}
+use Rattle.om3.proofs.{Lists.keep-append, Ranges.both-assoc}
 use Rattle.om3.proofs.Opened.{left-half, right-half, half-unopened}
 
 -- The range over two lists of nodes.

@@ -1,15 +1,10 @@
 -- Numbers in bytes, big-endian: what is written is read back, and bytes that were read are written again as they were.
 -- Assumes nothing.
-use mathlib.Core.Path.{_≡_, refl, sym, ap, _∙_}
-use mathlib.Core.List.{List, [], _∷_, _++_}
-use Prim.Native.Nat.{ℕ, zero, suc, _+_, _*_, _/_, _%_, _^_, _≤_, _<_}
-use native.Mathlib.Nat.{pow-suc, div-div-eq-div-mul, div-eq-of-lt, mul-assoc, mul-comm, add-mul, suc-mul, div-one}
-use native.Mathlib.Nat.{mul-le-mul-right, mul-add-div-right, pow-le-pow-right}
-use native.Mathlib.Omega.{arith}
-use lib.Dec.{lit<}
-use lib.ListN.{length, take, drop, length-take, length-drop}
-use lib.Seq.{getD-take, getD-drop}
-use Rattle.om3.specs.Bytes.{Bytes, bytesOf, numberFrom}
+use Rattle.kit.proofs.{_≡_, refl, sym, ap, _∙_, List, [], _∷_, _++_, ℕ, zero, suc, _+_, _*_, _/_, _%_, _^_, _≤_, _<_}
+use Rattle.kit.proofs.{pow-suc, div-div-eq-div-mul, div-eq-of-lt, mul-assoc, mul-comm, add-mul, suc-mul, div-one}
+use Rattle.kit.proofs.{mul-le-mul-right, mul-add-div-right, pow-le-pow-right, arith, lit<, length, take, drop}
+use Rattle.kit.proofs.{length-take, length-drop, getD-take, getD-drop}
+use Rattle.om3.specs.Document.{Bytes, bytesOf, numberFrom}
 
 pub bytes-length : (w x : ℕ) → length (bytesOf w x) ≡ w
 unfolding bytesOf

@@ -1,22 +1,12 @@
 -- Where a window, a column and a day are in order and some series has the table, the checks before 4 pass, since such a
 -- table is long enough. Assumes nothing.
-use mathlib.Core.Path.{_≡_, ap, _∙_}
-use mathlib.Core.Bool.{false, not, _&&_, _||_}
-use mathlib.Core.List.{List, _∷_}
-use Prim.Native.Nat.{ℕ, _*_, _/_, _≤_, _<_}
-use native.Mathlib.Omega.{arith}
-use lib.Dec.{leb, ltb, eqb}
-use lib.IntN.{ℤ}
-use lib.ListN.{length}
-use borrow.Author.Tests.{lt-ltb, le-ltb, le-leb, lt-leb, ne-eqb}
-use Rattle.words.specs.Constants.{mostColumns, dayHours}
-use Rattle.om3.specs.Series.{Series, levels, P}
-use Rattle.om3.specs.Table.{Table, coefficient, codeOfPlace, HasTable}
-use Rattle.om3.specs.Checks.{Check, passes, inOrder}
-use Rattle.om3.specs.Refusals.{checkHours, checkRoom, tableShort, checkWindow, checkColumn, checkDay}
-use Rattle.om3.specs.Drawn.{Drawn}
-use Rattle.om3.proofs.Lists.{map-up-length, take-room}
-use Rattle.om3.proofs.Taken.{good-hours}
+use Rattle.kit.proofs.{_≡_, ap, _∙_, false, not, _&&_, _||_, List, _∷_, ℕ, _*_, _/_, _≤_, _<_, arith, leb, ltb, eqb, ℤ}
+use Rattle.kit.proofs.{length, lt-ltb, le-ltb, le-leb, lt-leb, ne-eqb}
+use Rattle.words.specs.{mostColumns, dayHours}
+use Rattle.om3.specs.Document.{Series, levels, P, Table, coefficient, codeOfPlace, HasTable, Check, passes}
+use Rattle.om3.specs.Document.{inOrder, checkHours, checkRoom, tableShort, checkWindow, checkColumn, checkDay}
+use Rattle.om3.specs.Document.{Drawn}
+use Rattle.om3.proofs.{Lists.map-up-length, Lists.take-room, Taken.good-hours}
 
 -- A table that some series has is long enough.
 pub has-room : (n : ℕ) (s : List ℤ) (t : Table) → HasTable n s t → tableShort n t ≡ false

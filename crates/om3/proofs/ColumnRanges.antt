@@ -1,27 +1,12 @@
 -- What demand 3 says of the ranges and the counts of a column at its depths, by the laws of the depths. Assumes
 -- nothing.
-use mathlib.Core.Bool.{true, false}
-use mathlib.Core.List.{List}
-use mathlib.Core.Path.{_≡_}
-use Prim.Native.Nat.{ℕ, _-_, _*_, _^_, _≤_, _<_}
-use native.Mathlib.Nat.{le-refl}
-use native.Mathlib.Omega.{arith}
-use lib.IntN.{ℤ}
-use Rattle.words.specs.declared.Timestamp.{Timestamp}
-use Rattle.words.specs.declared.Column.{Column}
-use Rattle.om3.specs.Series.{isGap, Series, levels, hourOf}
-use Rattle.om3.specs.Table.{Table, HasTable}
-use Rattle.om3.specs.Columns.{inColumn}
-use Rattle.om3.specs.Stopped.{outer}
-use Rattle.om3.specs.Finished.{count}
-use Rattle.om3.specs.Looked.{Covers}
-use Rattle.om3.specs.Drawn.{Ranged}
-use Rattle.om3.proofs.Levels.{levels-some, n≤P}
-use Rattle.om3.proofs.Demand2.{has-ranges}
-use Rattle.om3.proofs.Intervals.{in-column}
-use Rattle.om3.proofs.Counted.{count-most, count-at-0}
-use Rattle.om3.proofs.DepthsLooked.{DepthRanges, depth-ranges}
-use Rattle.om3.proofs.FinishedAnswers.{finished-count}
+use Rattle.kit.proofs.{true, false, List, _≡_, ℕ, _-_, _*_, _^_, _≤_, _<_, le-refl, arith, ℤ}
+use Rattle.words.specs.declared.{Timestamp.Timestamp, Column.Column}
+use Rattle.om3.specs.Document.{isGap, Series, levels, hourOf, Table, HasTable, inColumn, outer, count, Covers}
+use Rattle.om3.specs.Document.{Ranged}
+use Rattle.om3.proofs.{Levels.levels-some, Levels.n≤P, Demand2.has-ranges, Intervals.in-column}
+use Rattle.om3.proofs.{Counted.count-most, Counted.count-at-0, DepthsLooked.DepthRanges}
+use Rattle.om3.proofs.{DepthsLooked.depth-ranges, FinishedAnswers.finished-count}
 
 -- The finished count is at most 6·l − 1.
 finished-most : (n : ℕ) (t : Table) (x : Column) → count (levels n) t x ≤ 6 * levels n - 1

@@ -1,23 +1,14 @@
 -- The count at depth 0 is at most 1, and at any other depth d at most 4·d − 1: at each level only the node that holds
 -- the column's first hour and the one that holds its last can be opened, and node 1 is both. Assumes nothing.
-use mathlib.Core.Path.{_≡_, refl, sym, ap, _∙_}
-use mathlib.Core.Bool.{Bool, true, false, cond}
-use mathlib.Core.Logic.{⊎-elim}
-use Prim.Native.Nat.{ℕ, zero, suc, _+_, _-_, _*_, _≤_, _<_}
-use native.Mathlib.Omega.{arith}
-use lib.ListN.{length, length-append}
-use Rattle.signed.proofs.Parts.{clash}
+use Rattle.kit.proofs.{_≡_, refl, sym, ap, _∙_, Bool, true, false, cond, ⊎-elim, ℕ, zero, suc, _+_, _-_, _*_, _≤_, _<_}
+use Rattle.kit.proofs.{arith, length, length-append}
+use Rattle.signed.proofs.{clash}
 use Rattle.words.specs.declared.Column.{Column}
-use Rattle.om3.specs.Lists.{keep}
-use Rattle.om3.specs.Nodes.{Node, root, left, right, width, start}
-use Rattle.om3.specs.Table.{Table}
-use Rattle.om3.specs.Sound.{nodesBelow}
-use Rattle.om3.specs.Columns.{noHour}
-use Rattle.om3.specs.Stopped.{opened, openedNodes, countAt}
-use Rattle.om3.proofs.Tests.{below-or-not}
-use Rattle.om3.proofs.Intervals.{shares-overlap, within-inside}
+use Rattle.om3.specs.Document.{keep, Node, root, left, right, width, start, Table, nodesBelow, noHour, opened}
+use Rattle.om3.specs.Document.{openedNodes, countAt}
+use Rattle.om3.proofs.{Tests.below-or-not, Intervals.shares-overlap, Intervals.within-inside}
+use Rattle.om3.proofs.{BelowOpened.opened-kept, BelowOpened.unopened-kept}
 use Rattle.om3.proofs.Opened.{opened-opens, unopened-if, node-cut}
-use Rattle.om3.proofs.BelowOpened.{opened-kept, unopened-kept}
 
 -- Without an hour the count is 0, and so less.
 count-at : (l : ℕ) (t : Table) (x : Column) (d : ℕ) → countAt l t x d ≤ 1 + 2 * length (openedNodes l t x d)

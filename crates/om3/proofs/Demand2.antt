@@ -1,40 +1,18 @@
 -- A table is sound exactly if some series has it, and that series is the one it turns back to. Assumes nothing.
-use mathlib.Core.Path.{_≡_, refl, sym, ap, _∙_}
-use mathlib.Core.Bool.{true, false, _||_}
-use mathlib.Core.List.{List}
-use mathlib.Core.Logic.{_↔_}
-use Prim.Native.Nat.{ℕ, _/_, _^_, _≤_, _<_}
-use native.Mathlib.Nat.{le-refl}
-use native.Mathlib.Omega.{arith}
-use lib.IntN.{ℤ, pos, negℤ}
-use lib.ListN.{getD, take}
-use lib.Seq.{ext-getD, getD-take, length-take-le, take-all}
-use borrow.Author.Tests.{lt-ltb}
-use Rattle.signed.proofs.Rules.{signed}
-use Rattle.words.specs.Constants.{largestHours, largestReading, gap}
-use Rattle.words.specs.Said.{lowOf}
-use Rattle.words.specs.declared.Range.{Range}
-use Rattle.words.specs.declared.Range.the-variants.{Empty, Held}
-use Rattle.words.specs.Bounds.{Readings}
-use Rattle.om3.specs.Series.{isReading, isGap, Series, levels, P, hour, hourOf}
-use Rattle.om3.specs.Ranges.{rangeOf}
-use Rattle.om3.specs.Nodes.{Node, InTree}
-use Rattle.om3.specs.Table.{Table, coefficient, codeOfPlace, tableOf, HasTable}
-use Rattle.om3.specs.Down.{reachedAt, reached, turnedBack}
-use Rattle.om3.specs.Sound.{soundTable}
-use Rattle.om3.specs.Refusals.{tableShort}
-use Rattle.om3.proofs.Tests.{left-true, is-between}
-use Rattle.om3.proofs.Lists.{map-up-length, map-up-from-0}
-use Rattle.om3.proofs.Levels.{levels-some, n≤P}
-use Rattle.om3.proofs.Nodes.{start-hour}
-use Rattle.om3.proofs.Ranges.{low-hour}
-use Rattle.om3.proofs.Places.{hour-range}
-use Rattle.om3.proofs.Reached.{reached-range}
-use Rattle.om3.proofs.MadeSound.{made-sound}
-use Rattle.om3.proofs.SoundTables.{readings-reached}
-use Rattle.om3.proofs.TurnedBack.{turned-length, turned-at, coefficient-same, codes-same}
-use Rattle.om3.proofs.Lent.{coefficients-there, codes-there}
+use Rattle.kit.proofs.{_≡_, refl, sym, ap, _∙_, true, false, _||_, List, _↔_, ℕ, _/_, _^_, _≤_, _<_, le-refl, arith, ℤ}
+use Rattle.kit.proofs.{pos, negℤ, getD, take, ext-getD, getD-take, length-take-le, take-all, lt-ltb}
+use Rattle.signed.proofs.{signed}
+use Rattle.words.specs.{largestHours, largestReading, gap, lowOf, Readings}
+use Rattle.words.specs.declared.{Range.Range, Range.the-variants.Empty, Range.the-variants.Held}
+use Rattle.om3.specs.Document.{isReading, isGap, Series, levels, P, hour, hourOf, rangeOf, Node, InTree, Table}
+use Rattle.om3.specs.Document.{coefficient, codeOfPlace, tableOf, HasTable, reachedAt, reached, turnedBack}
+use Rattle.om3.specs.Document.{soundTable, tableShort}
+use Rattle.om3.proofs.{Tests.left-true, Tests.is-between, Lists.map-up-length, Lists.map-up-from-0}
+use Rattle.om3.proofs.{Levels.levels-some, Levels.n≤P, Nodes.start-hour, Ranges.low-hour, Places.hour-range}
+use Rattle.om3.proofs.{Reached.reached-range, MadeSound.made-sound, SoundTables.readings-reached}
+use Rattle.om3.proofs.{Lent.coefficients-there, Lent.codes-there}
 use Rattle.om3.proofs.Agreeing.{Agree, reached-agrees, sound-agrees}
+use Rattle.om3.proofs.TurnedBack.{turned-length, turned-at, coefficient-same, codes-same}
 
 -- The low of a range of readings is a reading, or the gap mark where it is empty.
 low-holds : (r : Range) → Readings r → (isReading (lowOf r) || isGap (lowOf r)) ≡ true

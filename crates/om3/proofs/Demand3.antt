@@ -1,34 +1,16 @@
 -- Demand 3: from a table that some series has, a finished column answers what a look through its hours gives, a column
 -- stopped at a depth its two ranges and its count, and a day its change. The checks pass, since such a table is long
 -- enough and sound. Assumes nothing.
-use mathlib.Core.Path.{_≡_, ap}
-use mathlib.Core.List.{List, [], _∷_}
-use Prim.Native.Nat.{ℕ, _+_, _*_, _≤_, _<_}
-use native.Mathlib.Omega.{arith}
-use lib.IntN.{ℤ}
-use borrow.Author.Tests.{le-ltb}
-use Rattle.words.specs.Constants.{dayHours}
-use Rattle.words.specs.declared.Finished.{Finished}
-use Rattle.words.specs.declared.Stopped.{Stopped}
-use Rattle.words.specs.declared.Column.{Column}
-use Rattle.om3.specs.Series.{Series, levels}
-use Rattle.om3.specs.Table.{Table, HasTable}
-use Rattle.om3.specs.Checks.{inOrder}
-use Rattle.om3.specs.Refusals.{checkDepth}
-use Rattle.om3.specs.Columns.{column, columnHours}
-use Rattle.om3.specs.Stopped.{openedNodes, countAt, outer, inner, examineColumn, stopped}
-use Rattle.om3.specs.Finished.{answer, count, finishedNodes, finished}
-use Rattle.om3.specs.Days.{day, changeOf, dayChange}
-use Rattle.om3.specs.Looked.{lookThrough}
-use Rattle.om3.specs.Drawn.{Drawn, Ranged}
-use Rattle.om3.proofs.Demand2.{has-sound, has-ranges}
-use Rattle.om3.proofs.Answers.{day-hours}
-use Rattle.om3.proofs.Edges.{edge-mono}
-use Rattle.om3.proofs.Windows.{column-before}
-use Rattle.om3.proofs.FinishedAnswers.{finished-looks}
-use Rattle.om3.proofs.NeverRefused.{opened-passes, finished-passes}
-use Rattle.om3.proofs.ColumnChecks.{columns-pass, day-passes}
-use Rattle.om3.proofs.ColumnRanges.{fits, column-ranged}
+use Rattle.kit.proofs.{_≡_, ap, List, [], _∷_, ℕ, _+_, _*_, _≤_, _<_, arith, ℤ, le-ltb}
+use Rattle.words.specs.{dayHours}
+use Rattle.words.specs.declared.{Finished.Finished, Stopped.Stopped, Column.Column}
+use Rattle.om3.specs.Document.{Series, levels, Table, HasTable, inOrder, checkDepth, column, columnHours}
+use Rattle.om3.specs.Document.{openedNodes, countAt, outer, inner, examineColumn, stopped, answer, count}
+use Rattle.om3.specs.Document.{finishedNodes, finished, day, changeOf, dayChange, lookThrough, Drawn, Ranged}
+use Rattle.om3.proofs.{Demand2.has-sound, Demand2.has-ranges, Answers.day-hours, Edges.edge-mono}
+use Rattle.om3.proofs.{Windows.column-before, FinishedAnswers.finished-looks, NeverRefused.opened-passes}
+use Rattle.om3.proofs.{NeverRefused.finished-passes, ColumnChecks.columns-pass, ColumnChecks.day-passes}
+use Rattle.om3.proofs.{ColumnRanges.fits, ColumnRanges.column-ranged}
 
 module _ (n : ℕ) (s : List ℤ) (t : Table) (series : Series n s) (has : HasTable n s t) where
   abbrev l : ℕ

@@ -1,26 +1,17 @@
 -- With greater depth the inner range widens and the outer range narrows, and at depth l they are one: there each
 -- visited node that is not opened, has a reading and shares an hour with the column lies wholly inside it. Assumes
 -- nothing.
-use mathlib.Core.Path.{_≡_, refl, sym, _∙_}
-use mathlib.Core.Bool.{Bool, true, false, cond}
-use Prim.Native.Nat.{ℕ, _+_, _≤_, _<_}
-use Rattle.signed.proofs.Parts.{clash}
-use Rattle.words.specs.declared.Column.{Column}
-use Rattle.words.specs.declared.Range.{Range}
-use Rattle.words.specs.declared.Range.the-variants.{Empty, Held}
-use Rattle.om3.specs.Nodes.{Node, InTree, left, right}
-use Rattle.om3.specs.Ranges.{both}
-use Rattle.om3.specs.Table.{Table}
-use Rattle.om3.specs.Down.{reached}
-use Rattle.om3.specs.Stopped.{shares, inside, opened, visited, outer, inner}
-use Rattle.om3.specs.Looked.{LiesWithin}
-use Rattle.om3.proofs.Opened.{opened-opens, unopened-if}
+use Rattle.kit.proofs.{_≡_, refl, sym, _∙_, Bool, true, false, cond, ℕ, _+_, _≤_, _<_}
+use Rattle.signed.proofs.{clash}
+use Rattle.words.specs.declared.{Column.Column, Range.Range, Range.the-variants.Empty, Range.the-variants.Held}
+use Rattle.om3.specs.Document.{Node, InTree, left, right, both, Table, reached, shares, inside, opened, visited}
+use Rattle.om3.specs.Document.{outer, inner, LiesWithin}
+use Rattle.om3.proofs.{Opened.opened-opens, Opened.unopened-if, EachVisited.root-visited}
+use Rattle.om3.proofs.{RangesBelow.outer-unopened, RangesBelow.inner-unopened}
 use Rattle.om3.proofs.BelowOpened.{visited-left, visited-right, visited-root}
-use Rattle.om3.proofs.EachVisited.{inside-shares, opened-or-inside, opened-deeper, AtEnds, GoingOn, each-visited}
-use Rattle.om3.proofs.EachVisited.{root-visited}
-use Rattle.om3.proofs.RangesBelow.{outerBelow, innerBelow, outer-root, inner-root, outer-opened, inner-opened}
-use Rattle.om3.proofs.RangesBelow.{outer-unopened, inner-unopened}
 use Rattle.om3.proofs.RangesWithin.{within-refl, within-trans, both-widen}
+use Rattle.om3.proofs.EachVisited.{inside-shares, opened-or-inside, opened-deeper, AtEnds, GoingOn, each-visited}
+use Rattle.om3.proofs.RangesBelow.{outerBelow, innerBelow, outer-root, inner-root, outer-opened, inner-opened}
 
 -- In a table the range of each node above the hours is that of its halves together.
 abbrev pub Joins : ℕ → Table → Type 0

@@ -1,34 +1,17 @@
 -- Where the ranges reached in a table are those of a series' hours, the outer range of a column at any depth covers
 -- each reading of the column, the inner range lies within what a look through its hours gives, and at depth l both are
 -- that. Assumes nothing.
-use mathlib.Core.Path.{_≡_, refl}
-use mathlib.Core.Bool.{Bool, true, false, cond}
-use mathlib.Core.List.{List, map}
-use mathlib.Core.Logic.{⊎-elim}
-use Prim.Native.Nat.{ℕ, _+_, _-_, _^_, _≤_, _<_}
-use native.Mathlib.Omega.{arith}
-use lib.IntN.{ℤ}
-use Rattle.words.specs.declared.Column.{Column}
-use Rattle.words.specs.declared.Range.{Range}
-use Rattle.words.specs.declared.Range.the-variants.{Empty}
-use Rattle.om3.specs.Series.{isGap, hour, hourOf}
-use Rattle.om3.specs.Nodes.{Node, InTree, left, right, width, start, hours}
-use Rattle.om3.specs.Ranges.{look, rangeOf}
-use Rattle.om3.specs.Table.{Table}
-use Rattle.om3.specs.Down.{reached}
-use Rattle.om3.specs.Columns.{inColumn, columnHours}
-use Rattle.om3.specs.Stopped.{inside, outer, inner}
-use Rattle.om3.specs.Looked.{Covers, LiesWithin}
-use Rattle.om3.proofs.Tests.{below-or-not}
-use Rattle.om3.proofs.Nodes.{left-in, right-in, start-root, width-root}
-use Rattle.om3.proofs.Ranges.{range-halves}
-use Rattle.om3.proofs.Intervals.{Within, in-column, column-in, overlap-shares, inside-within}
-use Rattle.om3.proofs.Opened.{node-cut}
+use Rattle.kit.proofs.{_≡_, refl, Bool, true, false, cond, List, map, ⊎-elim, ℕ, _+_, _-_, _^_, _≤_, _<_, arith, ℤ}
+use Rattle.words.specs.declared.{Column.Column, Range.Range, Range.the-variants.Empty}
+use Rattle.om3.specs.Document.{isGap, hour, hourOf, Node, InTree, left, right, width, start, hours, look, rangeOf}
+use Rattle.om3.specs.Document.{Table, reached, inColumn, columnHours, inside, outer, inner, Covers, LiesWithin}
+use Rattle.om3.proofs.{Tests.below-or-not, Ranges.range-halves, Opened.node-cut, RangesBelow.outer-unopened}
+use Rattle.om3.proofs.{RangesBelow.inner-unopened, RangesWithin.hours-cover, RangesWithin.hours-within}
 use Rattle.om3.proofs.EachVisited.{AtEnds, GoingOn, root-visited}
+use Rattle.om3.proofs.Nodes.{left-in, right-in, start-root, width-root}
+use Rattle.om3.proofs.Intervals.{Within, in-column, column-in, overlap-shares, inside-within}
 use Rattle.om3.proofs.RangesBelow.{outerBelow, innerBelow, outer-root, inner-root, outer-opened, inner-opened}
-use Rattle.om3.proofs.RangesBelow.{outer-unopened, inner-unopened}
 use Rattle.om3.proofs.RangesWithin.{within-same, both-within, first-covers, second-covers}
-use Rattle.om3.proofs.RangesWithin.{hours-cover, hours-within}
 use Rattle.om3.proofs.Depths.{Joins, inner-widens, outer-narrows, depth-agrees}
 
 -- The two ranges of column x at the depths of a table t of l levels, against the series s of n hours. The

@@ -1,26 +1,12 @@
 -- Going down from a node's range with its details gives the ranges of its halves, and only they do. Assumes nothing.
-use mathlib.Core.Path.{_≡_, refl}
-use mathlib.Core.Bool.{Bool, true, false, cond}
-use Prim.Native.Nat.{ℕ, _+_, _-_, _<_}
-use lib.Dec.{lit<}
-use lib.IntN.{ℤ, pos, negsuc, _+ℤ_, _-ℤ_}
-use lib.Signed.{leZ, ltZ, _≤ℤ_}
-use borrow.Author.Tests.{ne-eqb}
-use Rattle.signed.specs.Choice.{minZ, maxZ, isNumber}
-use Rattle.signed.proofs.Parts.{up, dn}
-use Rattle.signed.proofs.Sums.{add-parts, sub-parts}
-use Rattle.signed.proofs.Choices.{min-parts, max-parts}
-use Rattle.signed.proofs.Rules.{signed}
-use Rattle.words.specs.Constants.{largestDetail, leftMark, rightMark, gapMark}
-use Rattle.words.specs.Said.{lowOf, highOf}
-use Rattle.words.specs.declared.Range.{Range}
-use Rattle.words.specs.declared.Range.the-variants.{Empty, Held}
-use Rattle.words.specs.Bounds.{Readings}
-use Rattle.om3.specs.Series.{isGap}
-use Rattle.om3.specs.Ranges.{hourRange, both}
-use Rattle.om3.specs.Table.{lowDetail, highDetail, code}
-use Rattle.om3.specs.Down.{leftLow, rightLow, leftHigh, rightHigh, leftHalf, rightHalf}
-use Rattle.om3.specs.Down.{firstOfPair, secondOfPair, rootRange}
+use Rattle.kit.proofs.{_≡_, refl, Bool, true, false, cond, ℕ, _+_, _-_, _<_, lit<, ℤ, pos, negsuc, _+ℤ_, _-ℤ_, leZ, ltZ}
+use Rattle.kit.proofs.{_≤ℤ_, ne-eqb}
+use Rattle.signed.specs.{minZ, maxZ, isNumber}
+use Rattle.signed.proofs.{up, dn, add-parts, sub-parts, min-parts, max-parts, signed}
+use Rattle.words.specs.{largestDetail, leftMark, rightMark, gapMark, lowOf, highOf, Readings}
+use Rattle.words.specs.declared.{Range.Range, Range.the-variants.Empty, Range.the-variants.Held}
+use Rattle.om3.specs.Document.{isGap, hourRange, both, lowDetail, highDetail, code, leftLow, rightLow, leftHigh}
+use Rattle.om3.specs.Document.{rightHigh, leftHalf, rightHalf, firstOfPair, secondOfPair, rootRange}
 
 -- The left low is the low plus what the detail is over zero; the other three likewise.
 pub leftLow-parts : (a d : ℤ) → up (leftLow a d) + dn a ≡ up a + (up d - dn d) + dn (leftLow a d)

@@ -1,16 +1,11 @@
 -- To show something of every visited node it is enough to show it of the visited nodes that are not opened, and of an
 -- opened node whose halves have it; single hours are never opened. Assumes nothing.
-use mathlib.Core.Path.{_≡_, refl, sym, _∙_}
-use mathlib.Core.Bool.{Bool, true, false}
-use mathlib.Core.Logic.{⊎-elim}
-use Prim.Native.Nat.{ℕ, zero, suc, _+_, _≤_, _<_}
-use native.Mathlib.Nat.{eq-or-lt-of-le, zero-add}
-use native.Mathlib.Omega.{arith}
-use Rattle.signed.proofs.Parts.{clash}
+use Rattle.kit.proofs.{_≡_, refl, sym, _∙_, Bool, true, false, ⊎-elim, ℕ, zero, suc, _+_, _≤_, _<_, eq-or-lt-of-le}
+use Rattle.kit.proofs.{zero-add, arith}
+use Rattle.signed.proofs.{clash}
 use Rattle.words.specs.declared.Column.{Column}
-use Rattle.om3.specs.Nodes.{Node, InTree, root, left, right}
-use Rattle.om3.specs.Table.{Table}
-use Rattle.om3.specs.Stopped.{hasReading, shares, inside, opened, visited}
+use Rattle.om3.specs.Document.{Node, InTree, root, left, right, Table, hasReading, shares, inside, opened}
+use Rattle.om3.specs.Document.{visited}
 use Rattle.om3.proofs.Nodes.{root-in, left-in, right-in, width-hour}
 use Rattle.om3.proofs.Intervals.{width-some, shares-overlap, overlap-shares, inside-within, within-inside}
 use Rattle.om3.proofs.Opened.{opened-opens, opens-opened, unopened-if}

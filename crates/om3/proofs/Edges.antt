@@ -1,11 +1,8 @@
 -- The columns of a window begin at its first hour, end at its end, and each begins where the one before it ends.
 -- Assumes nothing.
-use mathlib.Core.Path.{_≡_}
-use Prim.Native.Nat.{ℕ, _+_, _-_, _*_, _/_, _≤_}
-use native.Mathlib.Nat.{zero-mul, div-eq-of-lt, mul-add-div, mul-le-mul-right, le-div-iff-mul-le, div-mul-le-self}
-use native.Mathlib.Nat.{le-trans}
-use native.Mathlib.Omega.{arith}
-use Rattle.om3.specs.Columns.{edge}
+use Rattle.kit.proofs.{_≡_, ℕ, _+_, _-_, _*_, _/_, _≤_, zero-mul, div-eq-of-lt, mul-add-div, mul-le-mul-right}
+use Rattle.kit.proofs.{le-div-iff-mul-le, div-mul-le-self, le-trans, arith}
+use Rattle.om3.specs.Document.{edge}
 
 module _ (a b w : ℕ) (some : 1 ≤ w) where
   short : (w - 1) / w ≡ 0

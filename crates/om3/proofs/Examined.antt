@@ -1,20 +1,10 @@
 -- Checks one after another; the examination of a table passes exactly if every node of it is sound. Assumes nothing.
-use mathlib.Core.Path.{_≡_, refl, sym, ap, _∙_}
-use mathlib.Core.Bool.{Bool, true, false, _&&_}
-use mathlib.Core.List.{List, [], _∷_, _++_}
-use mathlib.Core.Logic.{_↔_}
-use Prim.Native.Nat.{ℕ}
-use native.Mathlib.Omega.{arith}
-use Rattle.signed.proofs.Parts.{clash}
-use Rattle.words.specs.declared.Refusal.{Refusal}
-use Rattle.words.specs.declared.NodeId.{NodeId}
-use Rattle.om3.specs.Lists.{every}
-use Rattle.om3.specs.Nodes.{Node, number}
-use Rattle.om3.specs.Table.{Table}
-use Rattle.om3.specs.Down.{coefficientAt}
-use Rattle.om3.specs.Checks.{Check, passes, refuses, refuseIf, andThen, inOrder, FirstCause}
-use Rattle.om3.specs.Sound.{soundRootValues, soundNode, tableNodes, soundTable, examineNode, examineNodes}
-use Rattle.om3.specs.Sound.{examine}
+use Rattle.kit.proofs.{_≡_, refl, sym, ap, _∙_, Bool, true, false, _&&_, List, [], _∷_, _++_, _↔_, ℕ, arith}
+use Rattle.signed.proofs.{clash}
+use Rattle.words.specs.declared.{Refusal.Refusal, NodeId.NodeId}
+use Rattle.om3.specs.Document.{every, Node, number, Table, coefficientAt, Check, passes, refuses, refuseIf}
+use Rattle.om3.specs.Document.{andThen, inOrder, FirstCause, soundRootValues, soundNode, tableNodes, soundTable}
+use Rattle.om3.specs.Document.{examineNode, examineNodes, examine}
 
 -- A first and a second check pass only if both do; a check passes only if its cause is not there.
 pub then-first : (c d : Check) → andThen c d ≡ passes → c ≡ passes

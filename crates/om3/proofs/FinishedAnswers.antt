@@ -1,33 +1,18 @@
 -- Where what is reached at each node is the range of its hours, the finished answer of a column is what a look through
 -- its hours gives; and its count is at most 6·l − 1 where that of depth l is at most 4·l − 1, since each walk adds at
 -- most l. Assumes nothing.
-use mathlib.Core.Path.{_≡_, refl, sym, ap, _∙_}
-use mathlib.Core.List.{List, [], _∷_, map}
-use Prim.Native.Nat.{ℕ, _+_, _-_, _*_, _^_, _≤_}
-use native.Mathlib.Omega.{arith}
-use lib.IntN.{ℤ}
-use Rattle.words.specs.Said.{lowOf, highOf}
-use Rattle.words.specs.declared.Answer.{Answer}
-use Rattle.words.specs.declared.Answer.the-variants.{NoReading, Found}
-use Rattle.words.specs.declared.Column.{Column}
-use Rattle.om3.specs.Lists.{lastOf, sum}
-use Rattle.om3.specs.Nodes.{Node, InTree}
-use Rattle.om3.specs.Ranges.{rangeOf}
-use Rattle.om3.specs.Table.{Table}
-use Rattle.om3.specs.Down.{reached}
-use Rattle.om3.specs.Columns.{columnHours}
-use Rattle.om3.specs.Stopped.{countAt, rangeOver}
-use Rattle.om3.specs.Finished.{levelsOf, endOf, walkEnd, towardsFirst, towardsLast, firstWalk, lastWalk}
-use Rattle.om3.specs.Finished.{readingAt, insideNodes, walksFrom, answerFrom, answer, count}
-use Rattle.om3.specs.Looked.{lookThrough}
-use Rattle.om3.proofs.Listed.{All}
-use Rattle.om3.proofs.Answers.{joined-right}
-use Rattle.om3.proofs.LookedThrough.{rangeOfAnswer, range-joined}
-use Rattle.om3.proofs.NodeAnswers.{nodeAnswer, Begins, Ends, begins-joined, ends-joined, joinedOver}
-use Rattle.om3.proofs.NodeAnswers.{reached-answer}
-use Rattle.om3.proofs.WalksEnd.{walk-first, walk-last}
-use Rattle.om3.proofs.InnerAnswers.{inner-looks}
+use Rattle.kit.proofs.{_≡_, refl, sym, ap, _∙_, List, [], _∷_, map, ℕ, _+_, _-_, _*_, _^_, _≤_, arith, ℤ}
+use Rattle.words.specs.{lowOf, highOf}
+use Rattle.words.specs.declared.{Answer.Answer, Answer.the-variants.NoReading, Answer.the-variants.Found, Column.Column}
+use Rattle.om3.specs.Document.{lastOf, sum, Node, InTree, rangeOf, Table, reached, columnHours, countAt}
+use Rattle.om3.specs.Document.{rangeOver, levelsOf, endOf, walkEnd, towardsFirst, towardsLast, firstWalk}
+use Rattle.om3.specs.Document.{lastWalk, readingAt, insideNodes, walksFrom, answerFrom, answer, count}
+use Rattle.om3.specs.Document.{lookThrough}
+use Rattle.om3.proofs.{Listed.All, Answers.joined-right, LookedThrough.rangeOfAnswer, LookedThrough.range-joined}
+use Rattle.om3.proofs.{NodeAnswers.reached-answer, WalksEnd.walk-first, WalksEnd.walk-last}
+use Rattle.om3.proofs.{InnerAnswers.inner-looks}
 use Rattle.om3.proofs.KeptNodes.{NonEmpty, inside-inner, inside-non-empty}
+use Rattle.om3.proofs.NodeAnswers.{nodeAnswer, Begins, Ends, begins-joined, ends-joined, joinedOver}
 
 -- An answer is told by its first reading, its last reading and its range.
 answer-told : (l : ℕ) (t : Table) (v : Node) (vs : List Node) (a : Answer)

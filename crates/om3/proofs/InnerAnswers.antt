@@ -1,33 +1,18 @@
 -- Where what is reached at each node is the range of its hours, the answers of the inner nodes at depth l join to what
 -- a look through the column's hours gives: at that depth no hour of the column with a reading is left out. Assumes
 -- nothing.
-use mathlib.Core.Path.{_≡_, refl, sym, _∙_}
-use mathlib.Core.Bool.{Bool, true, false, cond, _&&_}
-use mathlib.Core.List.{List, [], _∷_}
-use Prim.Native.Nat.{ℕ, suc, _+_, _^_, _≤_, _<_}
-use native.Mathlib.Omega.{arith}
-use lib.IntN.{ℤ}
-use Rattle.signed.proofs.Parts.{clash}
-use Rattle.words.specs.declared.Answer.{Answer}
-use Rattle.words.specs.declared.Answer.the-variants.{NoReading}
-use Rattle.words.specs.declared.Column.{Column}
-use Rattle.om3.specs.Lists.{keep}
-use Rattle.om3.specs.Nodes.{Node, InTree, left, right}
-use Rattle.om3.specs.Ranges.{rangeOf}
-use Rattle.om3.specs.Table.{Table}
-use Rattle.om3.specs.Down.{reached}
-use Rattle.om3.specs.Sound.{nodesBelow}
-use Rattle.om3.specs.Columns.{inColumn, columnHours}
-use Rattle.om3.specs.Stopped.{hasReading, shares, inside, opened, isInner, innerNodes}
-use Rattle.om3.specs.Joined.{joined}
-use Rattle.om3.specs.Looked.{lookThrough}
-use Rattle.om3.proofs.BelowOpened.{inner-kept, inner-end}
+use Rattle.kit.proofs.{_≡_, refl, sym, _∙_, Bool, true, false, cond, _&&_, List, [], _∷_, ℕ, suc, _+_, _^_, _≤_, _<_}
+use Rattle.kit.proofs.{arith, ℤ}
+use Rattle.signed.proofs.{clash}
+use Rattle.words.specs.declared.{Answer.Answer, Answer.the-variants.NoReading, Column.Column}
+use Rattle.om3.specs.Document.{keep, Node, InTree, left, right, rangeOf, Table, reached, nodesBelow, inColumn}
+use Rattle.om3.specs.Document.{columnHours, hasReading, shares, inside, opened, isInner, innerNodes, joined}
+use Rattle.om3.specs.Document.{lookThrough}
+use Rattle.om3.proofs.{BelowOpened.inner-kept, BelowOpened.inner-end, Answers.joined-right}
+use Rattle.om3.proofs.{LookedThrough.look-through-none, LookedThrough.look-through-append, KeptHours.root-kept}
 use Rattle.om3.proofs.EachVisited.{opened-or-inside, AtEnds, GoingOn, root-visited}
-use Rattle.om3.proofs.Answers.{joined-right}
-use Rattle.om3.proofs.LookedThrough.{look-through-none, look-through-append}
 use Rattle.om3.proofs.NodeAnswers.{nodeAnswer, no-answer, joinedOver, joined-over-append}
 use Rattle.om3.proofs.KeptHours.{no-reading-kept, hoursShared, inside-kept, unshared-kept, halves-kept}
-use Rattle.om3.proofs.KeptHours.{root-kept}
 
 module _ (l n : ℕ) (s : List ℤ) (t : Table) (ranges : (v : Node) → InTree l v → reached l t v ≡ rangeOf l n s v)
     (x : Column) where

@@ -1,20 +1,11 @@
 -- A node shares an hour with a column, or lies wholly inside it, exactly if their first hours and ends say so.
 -- Assumes nothing.
-use mathlib.Core.Path.{_≡_, refl}
-use mathlib.Core.Bool.{true}
-use mathlib.Core.Logic.{⊎-elim}
-use Prim.Native.Nat.{ℕ, zero, suc, _+_, _≤_, _<_}
-use native.Mathlib.Omega.{arith}
-use lib.Dec.{leb, ltb}
-use lib.Pow.{pow-pos}
-use borrow.Author.Tests.{leb-true, ltb-true, le-leb, lt-ltb}
-use Rattle.signed.proofs.Parts.{clash}
+use Rattle.kit.proofs.{_≡_, refl, true, ⊎-elim, ℕ, zero, suc, _+_, _≤_, _<_, arith, leb, ltb, pow-pos, leb-true}
+use Rattle.kit.proofs.{ltb-true, le-leb, lt-ltb}
+use Rattle.signed.proofs.{clash}
 use Rattle.words.specs.declared.Column.{Column}
-use Rattle.om3.specs.Lists.{upFrom, any, every}
-use Rattle.om3.specs.Series.{hour, hoursFrom}
-use Rattle.om3.specs.Nodes.{Node, width, start, hours}
-use Rattle.om3.specs.Columns.{inColumn}
-use Rattle.om3.specs.Stopped.{shares, inside}
+use Rattle.om3.specs.Document.{upFrom, any, every, hour, hoursFrom, Node, width, start, hours, inColumn, shares}
+use Rattle.om3.specs.Document.{inside}
 use Rattle.om3.proofs.Tests.{and-left, and-right, both-true, or-cases, left-true, right-true, below-or-not}
 
 -- The c hours from f on share an hour with the column.

@@ -1,28 +1,16 @@
 -- Of the hours of a node, those that lie in a column are all of them, none of them, or as many as its halves have; of
 -- node 1 they are the hours of the column. Assumes nothing.
-use mathlib.Core.Path.{_≡_, refl, sym, ap, _∙_}
-use mathlib.Core.Bool.{Bool, true, false, cond}
-use mathlib.Core.List.{List, [], _∷_, _++_, append-nil}
-use Prim.Native.Nat.{ℕ, _-_, _^_, _≤_, _<_}
-use native.Mathlib.Omega.{arith}
-use lib.IntN.{ℤ}
-use Rattle.words.specs.declared.Timestamp.{Timestamp}
-use Rattle.words.specs.declared.Answer.{Answer}
-use Rattle.words.specs.declared.Answer.the-variants.{NoReading, Found}
-use Rattle.words.specs.declared.Column.{Column}
-use Rattle.om3.specs.Lists.{any, keep}
-use Rattle.om3.specs.Series.{hoursFrom}
-use Rattle.om3.specs.Nodes.{Node, root, left, right, hours}
-use Rattle.om3.specs.Columns.{inColumn, columnHours}
-use Rattle.om3.specs.Stopped.{shares, inside}
-use Rattle.om3.specs.Joined.{joined}
-use Rattle.om3.specs.Looked.{lookThrough}
-use Rattle.om3.proofs.Tests.{fails-up}
+use Rattle.kit.proofs.{_≡_, refl, sym, ap, _∙_, Bool, true, false, cond, List, [], _∷_, _++_, append-nil, ℕ, _-_, _^_}
+use Rattle.kit.proofs.{_≤_, _<_, arith, ℤ}
+use Rattle.words.specs.declared.{Timestamp.Timestamp, Answer.Answer, Answer.the-variants.NoReading}
+use Rattle.words.specs.declared.{Answer.the-variants.Found, Column.Column}
+use Rattle.om3.specs.Document.{any, keep, hoursFrom, Node, root, left, right, hours, inColumn, columnHours}
+use Rattle.om3.specs.Document.{shares, inside, joined, lookThrough}
+use Rattle.om3.proofs.{Tests.fails-up, Windows.hours-cut, LookedThrough.hourAnswer}
+use Rattle.om3.proofs.{LookedThrough.look-through-more}
 use Rattle.om3.proofs.Lists.{keep-append, every-kept, nothing-kept}
 use Rattle.om3.proofs.Nodes.{start-root, width-root, hours-halves}
 use Rattle.om3.proofs.Intervals.{Overlap, Within, any-overlap, within-every}
-use Rattle.om3.proofs.Windows.{hours-cut}
-use Rattle.om3.proofs.LookedThrough.{hourAnswer, look-through-more}
 
 -- Of hours without a reading none has one.
 none-joined : (a b : Answer) → joined a b ≡ NoReading → (a ≡ NoReading) × (b ≡ NoReading)

@@ -1,25 +1,14 @@
 -- The nodes listed below a node of the tree lie in the tree, and those kept of a list pass the test they are kept by:
 -- opened nodes are of a level below the depth, inside nodes have a reading. The non-empty inside visited nodes are
 -- those of the inner range at depth l, since an inside node is not opened and shares its hours. Assumes nothing.
-use mathlib.Core.Path.{_≡_, refl, sym, ap, fun-ext, _∙_}
-use mathlib.Core.Bool.{Bool, true, false, cond, not, _&&_}
-use mathlib.Core.List.{List, [], _∷_}
-use Prim.Native.Nat.{ℕ, zero, suc, _+_, _*_, _^_, _≤_, _<_}
-use native.Mathlib.Nat.{two-pow-succ}
-use native.Mathlib.Omega.{arith}
-use Rattle.signed.proofs.Parts.{clash}
+use Rattle.kit.proofs.{_≡_, refl, sym, ap, fun-ext, _∙_, Bool, true, false, cond, not, _&&_, List, [], _∷_, ℕ, zero}
+use Rattle.kit.proofs.{suc, _+_, _*_, _^_, _≤_, _<_, two-pow-succ, arith}
+use Rattle.signed.proofs.{clash}
 use Rattle.words.specs.declared.Column.{Column}
-use Rattle.om3.specs.Lists.{keep}
-use Rattle.om3.specs.Nodes.{Node, InTree, root, left, right}
-use Rattle.om3.specs.Table.{Table}
-use Rattle.om3.specs.Sound.{nodesBelow, allNodes}
-use Rattle.om3.specs.Stopped.{hasReading, shares, inside, opened, visited, openedNodes, isInner}
-use Rattle.om3.specs.Stopped.{innerNodes}
-use Rattle.om3.specs.Finished.{insideNodes}
-use Rattle.om3.proofs.Tests.{and-left}
+use Rattle.om3.specs.Document.{keep, Node, InTree, root, left, right, Table, nodesBelow, allNodes, hasReading}
+use Rattle.om3.specs.Document.{shares, inside, opened, visited, openedNodes, isInner, innerNodes, insideNodes}
+use Rattle.om3.proofs.{Tests.and-left, Intervals.inside-shares, Opened.opened-opens, Opened.unopened-if}
 use Rattle.om3.proofs.Listed.{All, all-append, all-map}
-use Rattle.om3.proofs.Intervals.{inside-shares}
-use Rattle.om3.proofs.Opened.{opened-opens, unopened-if}
 
 -- What is kept of nodes that are all of a kind is of that kind, and passes the test.
 all-kept : (P : Node → Type 0) (p : Node → Bool) (vs : List Node) → All P vs

@@ -1,12 +1,6 @@
 -- A table is not too short exactly if the places that it needs are lent. Assumes nothing.
-use mathlib.Core.Path.{_≡_}
-use mathlib.Core.Bool.{false}
-use Prim.Native.Nat.{ℕ, _/_, _≤_}
-use lib.ListN.{length}
-use borrow.Author.Tests.{le-ltb, ltb-false}
-use Rattle.om3.specs.Series.{P}
-use Rattle.om3.specs.Table.{Table}
-use Rattle.om3.specs.Refusals.{short, tableShort}
+use Rattle.kit.proofs.{_≡_, false, ℕ, _/_, _≤_, length, le-ltb, ltb-false}
+use Rattle.om3.specs.Document.{P, Table, short, tableShort}
 use Rattle.om3.proofs.Tests.{neither}
 
 module _ (n : ℕ) (t : Table) where

@@ -1,15 +1,9 @@
 -- P is the smallest power of two that is at least n and at least 2, and l is from 1 to the largest level. Assumes
 -- nothing.
-use mathlib.Core.Path.{_≡_, ap, _∙_}
-use mathlib.Core.Logic.{⊎-elim}
-use Prim.Native.Nat.{ℕ, zero, suc, _+_, _-_, _*_, _/_, _^_, _≤_}
-use native.Mathlib.Nat.{two-pow-succ}
-use native.Mathlib.Omega.{arith}
-use lib.Dec.{leb}
-use lib.Pow.{pow-mono}
-use borrow.Author.Tests.{leb-true, le-leb}
-use Rattle.words.specs.Constants.{largestLevel, largestHours}
-use Rattle.om3.specs.Series.{levels, P}
+use Rattle.kit.proofs.{_≡_, ap, _∙_, ⊎-elim, ℕ, zero, suc, _+_, _-_, _*_, _/_, _^_, _≤_, two-pow-succ, arith, leb}
+use Rattle.kit.proofs.{pow-mono, leb-true, le-leb}
+use Rattle.words.specs.{largestLevel, largestHours}
+use Rattle.om3.specs.Document.{levels, P}
 use Rattle.om3.proofs.Tests.{below-or-not}
 use Rattle.om3.proofs.Lists.{first-from, first-upto, first-passes, first-least}
 

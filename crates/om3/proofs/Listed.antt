@@ -1,13 +1,7 @@
 -- What holds of each node of a list of nodes; what holds of each node listed below node 1 holds of each node of the
 -- tree. Assumes nothing.
-use mathlib.Core.Path.{_≡_}
-use mathlib.Core.List.{List, [], _∷_, _++_}
-use mathlib.Core.Logic.{⊎-elim}
-use Prim.Native.Nat.{ℕ, zero, suc, _+_, _-_, _/_, _^_, _<_}
-use native.Mathlib.Nat.{two-pow-succ}
-use native.Mathlib.Omega.{arith}
-use Rattle.om3.specs.Nodes.{Node, InTree, root, left, right}
-use Rattle.om3.specs.Sound.{nodesBelow}
+use Rattle.kit.proofs.{_≡_, List, [], _∷_, _++_, ⊎-elim, ℕ, zero, suc, _+_, _-_, _/_, _^_, _<_, two-pow-succ, arith}
+use Rattle.om3.specs.Document.{Node, InTree, root, left, right, nodesBelow}
 use Rattle.om3.proofs.Tests.{even-or-odd}
 
 abbrev pub All : (Node → Type 0) → List Node → Type 0

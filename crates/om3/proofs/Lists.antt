@@ -1,16 +1,10 @@
 -- Lists made by counting up, how long a list is of which k can be taken, what a test keeps of a list, and the first
 -- number that passes a test. Assumes nothing.
-use mathlib.Core.Path.{_≡_, refl, sym, ap, _∙_}
-use mathlib.Core.Bool.{Bool, true, false, cond}
-use mathlib.Core.List.{List, [], _∷_, _++_, map}
-use mathlib.Core.Logic.{⊎-elim}
-use Prim.Native.Nat.{ℕ, zero, suc, _+_, _≤_, _<_}
-use native.Mathlib.Nat.{zero-add, add-zero, suc-add, eq-or-lt-of-le}
-use native.Mathlib.Omega.{arith}
-use lib.ListN.{length, getD, take, length-map}
-use lib.Seq.{take-all}
-use Rattle.signed.proofs.Parts.{clash}
-use Rattle.om3.specs.Lists.{upFrom, any, every, keep, firstFrom}
+use Rattle.kit.proofs.{_≡_, refl, sym, ap, _∙_, Bool, true, false, cond, List, [], _∷_, _++_, map, ⊎-elim, ℕ, zero, suc}
+use Rattle.kit.proofs.{_+_, _≤_, _<_, zero-add, add-zero, suc-add, eq-or-lt-of-le, arith, length, getD, take}
+use Rattle.kit.proofs.{length-map, take-all}
+use Rattle.signed.proofs.{clash}
+use Rattle.om3.specs.Document.{upFrom, any, every, keep, firstFrom}
 use Rattle.om3.proofs.Tests.{and-left, and-right, neither, below-or-not}
 
 pub up-append : (f a b : ℕ) → upFrom f (a + b) ≡ upFrom f a ++ upFrom (f + a) b

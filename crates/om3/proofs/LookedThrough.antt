@@ -1,25 +1,13 @@
 -- What a look through hours gives is the answers of the single hours, joined one after the other; so it is joined from
 -- the looks through its parts, and its low and high are those of the range of its hours. Assumes nothing.
-use mathlib.Core.Path.{_≡_, refl, sym, ap, ap₂, _∙_}
-use mathlib.Core.Bool.{Bool, true, false, cond, not}
-use mathlib.Core.List.{List, [], _∷_, _++_, map, foldr}
-use Prim.Native.Nat.{ℕ, _-_, _≤_}
-use lib.IntN.{ℤ}
-use Rattle.words.specs.declared.Timestamp.{Timestamp}
-use Rattle.words.specs.declared.Range.{Range}
-use Rattle.words.specs.declared.Range.the-variants.{Empty, Held}
-use Rattle.words.specs.declared.Reading.{Reading}
-use Rattle.words.specs.declared.Summary.{Summary}
-use Rattle.words.specs.declared.Answer.{Answer}
-use Rattle.words.specs.declared.Answer.the-variants.{NoReading, Found}
-use Rattle.om3.specs.Lists.{keep, lastOf}
-use Rattle.om3.specs.Series.{isGap, hourOf, hoursFrom}
-use Rattle.om3.specs.Ranges.{hourRange, both, look}
-use Rattle.om3.specs.Joined.{joined}
-use Rattle.om3.specs.Looked.{readingOf, readingsIn, least, greatest, lookOver, lookThrough}
-use Rattle.om3.proofs.Ranges.{min-assoc, max-assoc}
-use Rattle.om3.proofs.Answers.{joined-right}
-use Rattle.om3.proofs.Windows.{hours-cut}
+use Rattle.kit.proofs.{_≡_, refl, sym, ap, ap₂, _∙_, Bool, true, false, cond, not, List, [], _∷_, _++_, map, foldr, ℕ}
+use Rattle.kit.proofs.{_-_, _≤_, ℤ}
+use Rattle.words.specs.declared.{Timestamp.Timestamp, Range.Range, Range.the-variants.Empty, Range.the-variants.Held}
+use Rattle.words.specs.declared.{Reading.Reading, Summary.Summary, Answer.Answer, Answer.the-variants.NoReading}
+use Rattle.words.specs.declared.{Answer.the-variants.Found}
+use Rattle.om3.specs.Document.{keep, lastOf, isGap, hourOf, hoursFrom, hourRange, both, look, joined, readingOf}
+use Rattle.om3.specs.Document.{readingsIn, least, greatest, lookOver, lookThrough}
+use Rattle.om3.proofs.{Ranges.min-assoc, Ranges.max-assoc, Answers.joined-right, Windows.hours-cut}
 
 pub joined-assoc : (a b c : Answer) → joined (joined a b) c ≡ joined a (joined b c)
 joined-assoc NoReading b c = refl

@@ -1,37 +1,19 @@
 -- The table of a series is sound. Assumes nothing.
-use mathlib.Core.Path.{_≡_, refl, ap, _∙_}
-use mathlib.Core.Bool.{Bool, true, false, cond, _&&_, _||_}
-use mathlib.Core.List.{List}
-use mathlib.Core.Logic.{⊎-elim}
-use Prim.Native.Nat.{ℕ, suc, _≤_, _<_}
-use native.Mathlib.Nat.{eq-or-lt-of-le}
-use lib.Dec.{ltb}
-use lib.IntN.{ℤ, pos, negℤ, _-ℤ_}
-use lib.Signed.{ltZ}
-use lib.ListN.{getD}
-use Rattle.signed.specs.Choice.{minZ, maxZ}
-use Rattle.signed.proofs.Sums.{sub-parts}
-use Rattle.signed.proofs.Choices.{min-parts, max-parts, true-eqZ}
-use Rattle.signed.proofs.Rules.{signed}
-use Rattle.words.specs.Constants.{largestReading, largestDetail, leftMark, rightMark, gap}
-use Rattle.words.specs.Said.{lowOf, highOf}
-use Rattle.words.specs.declared.Range.{Range}
-use Rattle.words.specs.declared.Range.the-variants.{Empty, Held}
-use Rattle.words.specs.Bounds.{Readings}
-use Rattle.om3.specs.Series.{isReading, isGap, Holds, hour, hourOf}
-use Rattle.om3.specs.Nodes.{Node, InTree, root, left, right, start, firstHour}
-use Rattle.om3.specs.Ranges.{hourRange, both, rangeOf, isEmpty}
-use Rattle.om3.specs.Table.{Table, lowDetail, highDetail, code, pairCode, tableOf}
-use Rattle.om3.specs.Down.{leftHalf, coefficientAt}
-use Rattle.om3.specs.Sound.{isDetail, ordered, bothAre, soundDetails, soundCode, gapFrom, soundNode}
-use Rattle.om3.specs.Sound.{soundRootValues, soundTable}
+use Rattle.kit.proofs.{_≡_, refl, ap, _∙_, Bool, true, false, cond, _&&_, _||_, List, ⊎-elim, ℕ, suc, _≤_, _<_}
+use Rattle.kit.proofs.{eq-or-lt-of-le, ltb, ℤ, pos, negℤ, _-ℤ_, ltZ, getD}
+use Rattle.signed.specs.{minZ, maxZ}
+use Rattle.signed.proofs.{sub-parts, min-parts, max-parts, true-eqZ, signed}
+use Rattle.words.specs.{largestReading, largestDetail, leftMark, rightMark, gap, lowOf, highOf, Readings}
+use Rattle.words.specs.declared.{Range.Range, Range.the-variants.Empty, Range.the-variants.Held}
+use Rattle.om3.specs.Document.{isReading, isGap, Holds, hour, hourOf, Node, InTree, root, left, right, start}
+use Rattle.om3.specs.Document.{firstHour, hourRange, both, rangeOf, isEmpty, Table, lowDetail, highDetail, code}
+use Rattle.om3.specs.Document.{pairCode, tableOf, leftHalf, coefficientAt, isDetail, ordered, bothAre}
+use Rattle.om3.specs.Document.{soundDetails, soundCode, gapFrom, soundNode, soundRootValues, soundTable}
 use Rattle.om3.proofs.Tests.{both-true, left-true, right-true, is-between}
-use Rattle.om3.proofs.Nodes.{pair-yes, pair-no}
-use Rattle.om3.proofs.Ranges.{range-halves, readings-range}
+use Rattle.om3.proofs.{Nodes.pair-yes, Nodes.pair-no, Ranges.range-halves, Ranges.readings-range}
+use Rattle.om3.proofs.{Reached.reached-range, NodeLists.table-from-each}
 use Rattle.om3.proofs.Down.{left-back, right-back, first-back, second-back}
 use Rattle.om3.proofs.Places.{root-low, root-high, low-place, high-place, code-place, hour-range}
-use Rattle.om3.proofs.Reached.{reached-range}
-use Rattle.om3.proofs.NodeLists.{table-from-each}
 
 root-sound : (r : Range) → Readings r → soundRootValues (lowOf r) (highOf r) ≡ true
 root-sound Empty p = refl

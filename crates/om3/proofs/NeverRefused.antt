@@ -1,23 +1,12 @@
 -- A sound table is never refused by 4 where a column is asked for: the nodes that are opened, and those on the walks to
 -- the first and to the last reading, are nodes of the table, so each of them is sound. Assumes nothing.
-use mathlib.Core.Path.{_≡_, refl}
-use mathlib.Core.Bool.{Bool, true, false, cond}
-use mathlib.Core.List.{List, [], _∷_, _++_, flatMap}
-use Prim.Native.Nat.{ℕ, zero, suc, _+_, _≤_, _<_}
-use native.Mathlib.Nat.{le-refl}
-use native.Mathlib.Omega.{arith}
+use Rattle.kit.proofs.{_≡_, refl, Bool, true, false, cond, List, [], _∷_, _++_, flatMap, ℕ, zero, suc, _+_, _≤_, _<_}
+use Rattle.kit.proofs.{le-refl, arith}
 use Rattle.words.specs.declared.Column.{Column}
-use Rattle.om3.specs.Lists.{lastOf}
-use Rattle.om3.specs.Nodes.{Node, InTree}
-use Rattle.om3.specs.Table.{Table}
-use Rattle.om3.specs.Checks.{Check, passes, inOrder}
-use Rattle.om3.specs.Sound.{soundTable, examine, examineNodes}
-use Rattle.om3.specs.Columns.{noHour}
-use Rattle.om3.specs.Stopped.{openedNodes, examineColumn}
-use Rattle.om3.specs.Finished.{walkNodes, nodesOf, towardsFirst, towardsLast, firstWalk, lastWalk, walksFrom}
-use Rattle.om3.specs.Finished.{insideNodes, finishedNodes}
-use Rattle.om3.proofs.Listed.{All, all-append}
-use Rattle.om3.proofs.SoundTables.{root-sound, node-sound}
+use Rattle.om3.specs.Document.{lastOf, Node, InTree, Table, Check, passes, inOrder, soundTable, examine}
+use Rattle.om3.specs.Document.{examineNodes, noHour, openedNodes, examineColumn, walkNodes, nodesOf, towardsFirst}
+use Rattle.om3.specs.Document.{towardsLast, firstWalk, lastWalk, walksFrom, insideNodes, finishedNodes}
+use Rattle.om3.proofs.{Listed.All, Listed.all-append, SoundTables.root-sound, SoundTables.node-sound}
 use Rattle.om3.proofs.WalksEnd.{Taken, first-taken, last-taken}
 use Rattle.om3.proofs.KeptNodes.{Above, NonEmpty, opened-above, inside-non-empty}
 

@@ -1,28 +1,14 @@
 -- Where what is reached at each node is the range of its hours, the answer of a node's hours is joined from those of
 -- its halves, and a node has a reading exactly if its hours answer with one. Assumes nothing.
-use mathlib.Core.Path.{_≡_, refl, sym, ap, _∙_}
-use mathlib.Core.Bool.{Bool, true, false, cond, not}
-use mathlib.Core.List.{List, [], _∷_, _++_}
-use Prim.Native.Nat.{ℕ, _<_}
-use lib.IntN.{ℤ}
-use Rattle.signed.proofs.Parts.{clash}
-use Rattle.words.specs.declared.Timestamp.{Timestamp}
-use Rattle.words.specs.declared.Reading.{Reading}
-use Rattle.words.specs.declared.Summary.{Summary}
-use Rattle.words.specs.declared.Answer.{Answer}
-use Rattle.words.specs.declared.Answer.the-variants.{NoReading, Found}
-use Rattle.om3.specs.Lists.{upFrom}
-use Rattle.om3.specs.Series.{isGap, hour, hourOf}
-use Rattle.om3.specs.Nodes.{Node, InTree, left, right, hours}
-use Rattle.om3.specs.Ranges.{isEmpty, rangeOf}
-use Rattle.om3.specs.Table.{Table}
-use Rattle.om3.specs.Down.{reached}
-use Rattle.om3.specs.Stopped.{hasReading}
-use Rattle.om3.specs.Joined.{joined}
-use Rattle.om3.specs.Looked.{readingOf, lookThrough}
+use Rattle.kit.proofs.{_≡_, refl, sym, ap, _∙_, Bool, true, false, cond, not, List, [], _∷_, _++_, ℕ, _<_, ℤ}
+use Rattle.signed.proofs.{clash}
+use Rattle.words.specs.declared.{Timestamp.Timestamp, Reading.Reading, Summary.Summary, Answer.Answer}
+use Rattle.words.specs.declared.{Answer.the-variants.NoReading, Answer.the-variants.Found}
+use Rattle.om3.specs.Document.{upFrom, isGap, hour, hourOf, Node, InTree, left, right, hours, isEmpty, rangeOf}
+use Rattle.om3.specs.Document.{Table, reached, hasReading, joined, readingOf, lookThrough}
 use Rattle.om3.proofs.Nodes.{hours-halves, width-hour, start-hour}
-use Rattle.om3.proofs.LookedThrough.{joined-assoc, rangeOfAnswer, hourAnswer, look-through-one}
 use Rattle.om3.proofs.LookedThrough.{look-through-append, look-through-range}
+use Rattle.om3.proofs.LookedThrough.{joined-assoc, rangeOfAnswer, hourAnswer, look-through-one}
 
 -- The answer of a node's hours.
 abbrev pub nodeAnswer : ℕ → ℕ → List ℤ → Node → Answer

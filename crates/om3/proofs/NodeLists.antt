@@ -1,15 +1,8 @@
 -- A test that each node of the tree passes is passed by each node of the list of examination, and the other way round.
 -- Assumes nothing.
-use mathlib.Core.Path.{_≡_, refl, sym, ap, _∙_}
-use mathlib.Core.Bool.{Bool, true, _&&_, and-assoc}
-use mathlib.Core.List.{List, [], _∷_, _++_}
-use mathlib.Core.Logic.{⊎-elim}
-use Prim.Native.Nat.{ℕ, zero, suc, _+_, _-_, _/_, _^_, _≤_, _<_}
-use native.Mathlib.Nat.{two-pow-succ}
-use native.Mathlib.Omega.{arith}
-use Rattle.om3.specs.Lists.{every}
-use Rattle.om3.specs.Nodes.{Node, InTree, root, left, right}
-use Rattle.om3.specs.Sound.{nodesBelow, tableNodes}
+use Rattle.kit.proofs.{_≡_, refl, sym, ap, _∙_, Bool, true, _&&_, and-assoc, List, [], _∷_, _++_, ⊎-elim, ℕ, zero, suc}
+use Rattle.kit.proofs.{_+_, _-_, _/_, _^_, _≤_, _<_, two-pow-succ, arith}
+use Rattle.om3.specs.Document.{every, Node, InTree, root, left, right, nodesBelow, tableNodes}
 use Rattle.om3.proofs.Tests.{and-left, and-right, both-true, even-or-odd}
 use Rattle.om3.proofs.Nodes.{root-in, left-in, right-in}
 

@@ -1,21 +1,11 @@
 -- A node's halves: their numbers, their hours, and which nodes are pairs. Assumes nothing.
-use mathlib.Core.Path.{_≡_, refl, sym, ap, _∙_}
-use mathlib.Core.Bool.{true, false}
-use mathlib.Core.List.{_++_, map-append}
-use mathlib.Core.Logic.{⊎-elim}
-use Prim.Native.Nat.{ℕ, zero, suc, _+_, _-_, _*_, _/_, _^_, _≤_, _<_}
-use native.Mathlib.Nat.{two-pow-succ, mul-add, add-mul, eq-or-lt-of-le}
-use native.Mathlib.Omega.{arith}
-use lib.Pow.{pow-mono}
-use borrow.Author.Tests.{le-leb, lt-leb, eq-eqb, ne-eqb}
+use Rattle.kit.proofs.{_≡_, refl, sym, ap, _∙_, true, false, _++_, map-append, ⊎-elim, ℕ, zero, suc, _+_, _-_, _*_, _/_}
+use Rattle.kit.proofs.{_^_, _≤_, _<_, two-pow-succ, mul-add, add-mul, eq-or-lt-of-le, arith, pow-mono, le-leb, lt-leb}
+use Rattle.kit.proofs.{eq-eqb, ne-eqb}
 use Rattle.words.specs.declared.NodeId.{NodeId}
-use Rattle.om3.specs.Lists.{upFrom}
-use Rattle.om3.specs.Series.{hour}
-use Rattle.om3.specs.Nodes.{Node, InTree, number, root, left, right, isPair, width, start, hours, levelOf}
-use Rattle.om3.specs.Nodes.{nodeOf}
-use Rattle.om3.proofs.Tests.{below-or-not}
-use Rattle.om3.proofs.Lists.{up-append}
-use Rattle.om3.proofs.Levels.{half-pow}
+use Rattle.om3.specs.Document.{upFrom, hour, Node, InTree, number, root, left, right, isPair, width, start, hours}
+use Rattle.om3.specs.Document.{levelOf, nodeOf}
+use Rattle.om3.proofs.{Tests.below-or-not, Lists.up-append, Levels.half-pow}
 
 pub root-in : (l : ℕ) → InTree l root
 root-in l = record { deep = omega arith; among = omega arith }

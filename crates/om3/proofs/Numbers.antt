@@ -1,27 +1,13 @@
 -- The definitions answer as document 01 says, by computing them. Assumes nothing.
-use mathlib.Core.Path.{refl}
-use mathlib.Core.List.{flatMap}
-use Prim.Native.Nat.{ℕ}
-use Rattle.om3.specs.Lists.{upFrom, any, every, keep, firstFrom, lastOf}
-use Rattle.om3.specs.Series.{levels, hourOf}
-use Rattle.om3.specs.Nodes.{width, start, hours, levelOf}
-use Rattle.om3.specs.Ranges.{look, rangeOf}
-use Rattle.om3.specs.Table.{coefficient, pairCode}
-use Rattle.om3.specs.Down.{reachedAt}
-use Rattle.om3.specs.Checks.{inOrder}
-use Rattle.om3.specs.Sound.{soundNode, nodesBelow, examine}
-use Rattle.om3.specs.Refusals.{checkReadings}
-use Rattle.om3.specs.Level.{levelStretch}
-use Rattle.om3.specs.Bytes.{bytesOf, numberFrom, signedOf}
-use Rattle.om3.specs.Record.{recordOf, tableIn}
-use Rattle.om3.specs.RecordCalls.{opening, asking}
-use Rattle.om3.specs.Columns.{edges}
-use Rattle.om3.specs.Stopped.{shares, inside, opened, visited, countAt, rangeOver, outer, innerNodes, stopped}
-use Rattle.om3.specs.Finished.{walkNodes, walkEnd, insideNodes, finished}
-use Rattle.om3.specs.Days.{dayChange}
-use Rattle.om3.specs.Text.{split, windowLine, hourLine, withoutEnd}
-use Rattle.om3.specs.Printed.{digitsOf, decimal, columnLines, checkLines, checkNumbers, printed}
-use Rattle.om3.specs.Numbers.{Answered, numbers, unmarked, outside, further, printing}
+use Rattle.kit.proofs.{refl, flatMap, ℕ}
+use Rattle.om3.specs.Document.{upFrom, any, every, keep, firstFrom, lastOf, levels, hourOf, width, start, hours}
+use Rattle.om3.specs.Document.{levelOf, look, rangeOf, coefficient, pairCode, reachedAt, inOrder, soundNode}
+use Rattle.om3.specs.Document.{nodesBelow, examine, checkReadings, levelStretch, bytesOf, numberFrom, signedOf}
+use Rattle.om3.specs.Document.{recordOf, tableIn, opening, asking, edges, shares, inside, opened, visited}
+use Rattle.om3.specs.Document.{countAt, rangeOver, outer, innerNodes, stopped, walkNodes, walkEnd, insideNodes}
+use Rattle.om3.specs.Document.{finished, dayChange, split, windowLine, hourLine, withoutEnd, digitsOf, decimal}
+use Rattle.om3.specs.Document.{columnLines, checkLines, checkNumbers, printed, Answered, numbers, unmarked}
+use Rattle.om3.specs.Document.{outside, further, printing}
 
 unfoldable computing : Unit {0}
 unfolding upFrom any every keep firstFrom levels hourOf width start hours levelOf look rangeOf coefficient pairCode

@@ -1,22 +1,13 @@
 -- What it is to be opened, and that a half of a node that is not opened is not opened. Assumes nothing.
-use mathlib.Core.Path.{_≡_, refl, sym, _∙_}
-use mathlib.Core.Bool.{Bool, true, false, cond, not, _&&_}
-use Prim.Native.Nat.{ℕ, _+_, _≤_, _<_}
-use native.Mathlib.Omega.{arith}
-use lib.Dec.{ltb}
-use borrow.Author.Tests.{ltb-true, lt-ltb, not-true}
-use Rattle.signed.proofs.Parts.{clash}
-use Rattle.words.specs.declared.Column.{Column}
-use Rattle.words.specs.declared.Range.{Range}
-use Rattle.words.specs.declared.Range.the-variants.{Empty, Held}
-use Rattle.om3.specs.Nodes.{Node, left, right, isPair, width, start}
-use Rattle.om3.specs.Ranges.{isEmpty}
-use Rattle.om3.specs.Table.{Table}
-use Rattle.om3.specs.Down.{leftOf, rightOf, reached}
-use Rattle.om3.specs.Stopped.{hasReading, shares, inside, opened}
+use Rattle.kit.proofs.{_≡_, refl, sym, _∙_, Bool, true, false, cond, not, _&&_, ℕ, _+_, _≤_, _<_, arith, ltb, ltb-true}
+use Rattle.kit.proofs.{lt-ltb, not-true}
+use Rattle.signed.proofs.{clash}
+use Rattle.words.specs.declared.{Column.Column, Range.Range, Range.the-variants.Empty, Range.the-variants.Held}
+use Rattle.om3.specs.Document.{Node, left, right, isPair, width, start, isEmpty, Table, leftOf, rightOf, reached}
+use Rattle.om3.specs.Document.{hasReading, shares, inside, opened}
 use Rattle.om3.proofs.Tests.{and-left, and-right, fails-up}
-use Rattle.om3.proofs.Nodes.{width-half, width-right, start-left, start-right}
 use Rattle.om3.proofs.Reached.{reached-left, reached-right}
+use Rattle.om3.proofs.Nodes.{width-half, width-right, start-left, start-right}
 use Rattle.om3.proofs.Intervals.{shares-overlap, overlap-shares, inside-within, within-inside}
 
 -- An opened node has a reading, shares an hour with the column, is not wholly inside it and is of a level below d.

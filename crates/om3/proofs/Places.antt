@@ -1,22 +1,13 @@
 -- What stands at the places of the table of a series. Assumes nothing.
-use mathlib.Core.Path.{_≡_, ap, _∙_}
-use mathlib.Core.List.{List}
-use Prim.Native.Nat.{ℕ, suc, _+_, _-_, _*_, _/_, _%_, _^_, _≤_, _<_}
-use native.Mathlib.Omega.{arith}
-use lib.IntN.{ℤ, pos}
-use lib.Pow.{pow-pos, pow-mono}
-use borrow.Author.Tests.{eq-eqb, ne-eqb}
-use Rattle.words.specs.Said.{lowOf, highOf}
-use Rattle.om3.specs.Lists.{upFrom}
-use Rattle.om3.specs.Series.{hour, hourOf}
-use Rattle.om3.specs.Nodes.{Node, InTree, number, root, left, right, start, hours}
-use Rattle.om3.specs.Ranges.{hourRange, look, rangeOf}
-use Rattle.om3.specs.Table.{Table, lowDetail, highDetail, lowDetailOf, highDetailOf, coefficient, pairCode}
-use Rattle.om3.specs.Table.{codeOfPlace, tableOf}
-use Rattle.om3.specs.Down.{coefficientAt, lowDetailAt, highDetailAt, codeAt}
-use Rattle.om3.proofs.Lists.{map-up-from-0}
+use Rattle.kit.proofs.{_≡_, ap, _∙_, List, ℕ, suc, _+_, _-_, _*_, _/_, _%_, _^_, _≤_, _<_, arith, ℤ, pos, pow-pos}
+use Rattle.kit.proofs.{pow-mono, eq-eqb, ne-eqb}
+use Rattle.words.specs.{lowOf, highOf}
+use Rattle.om3.specs.Document.{upFrom, hour, hourOf, Node, InTree, number, root, left, right, start, hours}
+use Rattle.om3.specs.Document.{hourRange, look, rangeOf, Table, lowDetail, highDetail, lowDetailOf, highDetailOf}
+use Rattle.om3.specs.Document.{coefficient, pairCode, codeOfPlace, tableOf, coefficientAt, lowDetailAt}
+use Rattle.om3.specs.Document.{highDetailAt, codeAt}
+use Rattle.om3.proofs.{Lists.map-up-from-0, Ranges.both-empty}
 use Rattle.om3.proofs.Nodes.{detail-room, pair-half, code-room, width-hour, node-of-number}
-use Rattle.om3.proofs.Ranges.{both-empty}
 
 module _ (l n : ℕ) (s : List ℤ) where
   abbrev T : Table

@@ -1,32 +1,16 @@
 -- The columns of a text that is taken: its hours are a series, and the table that they are drawn from is that series'
 -- own. So each printed line is of an answer, which is what a look through the column's hours gives. Assumes nothing.
-use mathlib.Core.Path.{_≡_, refl}
-use mathlib.Core.Bool.{true, not, _&&_, _||_}
-use mathlib.Core.List.{List, [], _∷_, map}
-use Prim.Native.Nat.{ℕ, zero, suc, _+_, _<_}
-use native.Mathlib.Omega.{arith}
-use lib.Dec.{leb, ltb, eqb}
-use lib.IntN.{ℤ}
-use lib.ListN.{length, getD, length-map}
-use borrow.Author.Tests.{ltb-true, ltb-false, leb-true, not-false}
-use Rattle.words.specs.Constants.{mostColumns, gap}
+use Rattle.kit.proofs.{_≡_, refl, true, not, _&&_, _||_, List, [], _∷_, map, ℕ, zero, suc, _+_, _<_, arith, leb, ltb}
+use Rattle.kit.proofs.{eqb, ℤ, length, getD, length-map, ltb-true, ltb-false, leb-true, not-false}
+use Rattle.words.specs.{mostColumns, gap}
+use Rattle.words.specs.declared.{Finished.Finished, HourLine.HourLine}
 use Rattle.words.specs.declared.Refusal.the-variants.{BadReading, BadWindow, BadColumn}
-use Rattle.words.specs.declared.Finished.{Finished}
-use Rattle.words.specs.declared.HourLine.{HourLine}
-use Rattle.om3.specs.Series.{isReading, isGap, Series, levels, hour}
-use Rattle.om3.specs.Table.{tableOf}
-use Rattle.om3.specs.Checks.{passes, inOrder}
-use Rattle.om3.specs.Refusals.{checkHours, checkWindow, checkColumn}
-use Rattle.om3.specs.Columns.{column, columnHours}
-use Rattle.om3.specs.Finished.{count, finished}
-use Rattle.om3.specs.Looked.{lookThrough}
-use Rattle.om3.specs.Drawn.{Drawn}
-use Rattle.om3.specs.Printed.{gramsOf, checkLines, checkNumber, checkNumbers, printingChecks}
+use Rattle.om3.specs.Document.{isReading, isGap, Series, levels, hour, tableOf, passes, inOrder, checkHours}
+use Rattle.om3.specs.Document.{checkWindow, checkColumn, column, columnHours, count, finished, lookThrough, Drawn}
+use Rattle.om3.specs.Document.{gramsOf, checkLines, checkNumber, checkNumbers, printingChecks}
+use Rattle.om3.proofs.{Making.hours-some, Demand2.made-has, Demand3.finished-drawn}
 use Rattle.om3.proofs.Tests.{and-left, and-right, neither}
 use Rattle.om3.proofs.Examined.{then-first, then-second, refuse-not, order-parts}
-use Rattle.om3.proofs.Making.{hours-some}
-use Rattle.om3.proofs.Demand2.{made-has}
-use Rattle.om3.proofs.Demand3.{finished-drawn}
 
 -- An hour whose line passes check 2 holds a reading or a gap.
 number-holds : (h : ℕ) (line : HourLine) → checkNumber h line ≡ passes

@@ -1,29 +1,14 @@
 -- Ranges of neighbouring hours join, an empty one changes nothing, and the ranges of a series lie within readings.
 -- Assumes nothing.
-use mathlib.Core.Path.{_≡_, refl, sym, ap, _∙_}
-use mathlib.Core.Bool.{Bool, true, false, cond, _||_}
-use mathlib.Core.List.{List, [], _∷_, _++_, map, map-append}
-use mathlib.Core.Logic.{⊎-elim}
-use Prim.Native.Nat.{ℕ, _<_}
-use lib.Dec.{ltb}
-use lib.IntN.{ℤ, pos, negℤ}
-use lib.ListN.{getD}
-use borrow.Author.Tests.{ltb-true}
-use Rattle.signed.specs.Choice.{minZ, maxZ}
-use Rattle.signed.proofs.Parts.{clash}
-use Rattle.signed.proofs.Choices.{min-parts, max-parts, isNumber-true}
-use Rattle.signed.proofs.Rules.{signed}
-use Rattle.words.specs.Constants.{largestReading, gapMark, gap}
-use Rattle.words.specs.Said.{lowOf}
-use Rattle.words.specs.declared.Timestamp.{Timestamp}
-use Rattle.words.specs.declared.Range.{Range}
-use Rattle.words.specs.declared.Range.the-variants.{Empty, Held}
-use Rattle.words.specs.Bounds.{Readings}
-use Rattle.om3.specs.Series.{isReading, isGap, Holds, hourOf}
-use Rattle.om3.specs.Nodes.{Node, left, right, hours}
-use Rattle.om3.specs.Ranges.{hourRange, both, look, rangeOf}
-use Rattle.om3.proofs.Tests.{or-cases, between}
-use Rattle.om3.proofs.Nodes.{hours-halves}
+use Rattle.kit.proofs.{_≡_, refl, sym, ap, _∙_, Bool, true, false, cond, _||_, List, [], _∷_, _++_, map, map-append}
+use Rattle.kit.proofs.{⊎-elim, ℕ, _<_, ltb, ℤ, pos, negℤ, getD, ltb-true}
+use Rattle.signed.specs.{minZ, maxZ}
+use Rattle.signed.proofs.{clash, min-parts, max-parts, isNumber-true, signed}
+use Rattle.words.specs.{largestReading, gapMark, gap, lowOf, Readings}
+use Rattle.words.specs.declared.{Timestamp.Timestamp, Range.Range, Range.the-variants.Empty, Range.the-variants.Held}
+use Rattle.om3.specs.Document.{isReading, isGap, Holds, hourOf, Node, left, right, hours, hourRange, both, look}
+use Rattle.om3.specs.Document.{rangeOf}
+use Rattle.om3.proofs.{Tests.or-cases, Tests.between, Nodes.hours-halves}
 
 pub min-assoc : (a b c : ℤ) → minZ (minZ a b) c ≡ minZ a (minZ b c)
 min-assoc a b c = omega (signed, min-parts a b, min-parts b c, min-parts (minZ a b) c, min-parts a (minZ b c))

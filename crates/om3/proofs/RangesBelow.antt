@@ -1,24 +1,13 @@
 -- The outer and the inner range at a depth, node by node: an opened node gives what its halves give together, any other
 -- visited node gives its own range if it shares an hour with the column, or lies wholly inside it. Assumes nothing.
-use mathlib.Core.Path.{_≡_, refl, ap, _∙_}
-use mathlib.Core.Bool.{Bool, true, false, cond, not, _&&_, and-true, and-false}
-use mathlib.Core.List.{[], _∷_}
-use Prim.Native.Nat.{ℕ, suc, _+_}
-use native.Mathlib.Omega.{arith}
-use Rattle.words.specs.declared.Column.{Column}
-use Rattle.words.specs.declared.Range.{Range}
-use Rattle.words.specs.declared.Range.the-variants.{Empty, Held}
-use Rattle.om3.specs.Lists.{keep}
-use Rattle.om3.specs.Nodes.{Node, root, left, right}
-use Rattle.om3.specs.Ranges.{isEmpty, both}
-use Rattle.om3.specs.Table.{Table}
-use Rattle.om3.specs.Down.{reached}
-use Rattle.om3.specs.Sound.{nodesBelow}
-use Rattle.om3.specs.Stopped.{hasReading, shares, inside, opened, visited, rangeOver, isOuter, outer, isInner}
-use Rattle.om3.specs.Stopped.{innerNodes, inner}
-use Rattle.om3.proofs.Ranges.{both-empty}
+use Rattle.kit.proofs.{_≡_, refl, ap, _∙_, Bool, true, false, cond, not, _&&_, and-true, and-false, [], _∷_, ℕ, suc}
+use Rattle.kit.proofs.{_+_, arith}
+use Rattle.words.specs.declared.{Column.Column, Range.Range, Range.the-variants.Empty, Range.the-variants.Held}
+use Rattle.om3.specs.Document.{keep, Node, root, left, right, isEmpty, both, Table, reached, nodesBelow}
+use Rattle.om3.specs.Document.{hasReading, shares, inside, opened, visited, rangeOver, isOuter, outer, isInner}
+use Rattle.om3.specs.Document.{innerNodes, inner}
+use Rattle.om3.proofs.{Ranges.both-empty, EachVisited.inside-shares}
 use Rattle.om3.proofs.BelowOpened.{range-append, outer-kept, outer-end, inner-kept, inner-end}
-use Rattle.om3.proofs.EachVisited.{inside-shares}
 
 -- Where an empty range gives itself, it need not be asked whether there is a reading.
 reading-range : (r : Range) (b : Bool) → cond (not (isEmpty r) && b) r Empty ≡ cond b r Empty

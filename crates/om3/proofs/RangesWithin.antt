@@ -1,21 +1,10 @@
 -- When ranges lie within one another and readings within ranges: the order, joined ranges, and the range of a stretch
 -- of hours, which covers each reading there and lies within any range that does. Assumes nothing.
-use mathlib.Core.Path.{_≡_, refl}
-use mathlib.Core.Bool.{Bool, true, false, cond}
-use mathlib.Core.List.{List, map}
-use mathlib.Core.Logic.{⊎-elim}
-use Prim.Native.Nat.{ℕ, zero, suc, _+_, _≤_, _<_}
-use native.Mathlib.Nat.{le-refl, eq-or-lt-of-le}
-use native.Mathlib.Omega.{arith}
-use lib.IntN.{ℤ}
-use Rattle.signed.proofs.Choices.{min-parts, max-parts}
-use Rattle.signed.proofs.Rules.{signed}
-use Rattle.words.specs.declared.Range.{Range}
-use Rattle.words.specs.declared.Range.the-variants.{Empty, Held}
-use Rattle.om3.specs.Lists.{upFrom}
-use Rattle.om3.specs.Series.{isGap, hour, hoursFrom, hourOf}
-use Rattle.om3.specs.Ranges.{hourRange, both, look}
-use Rattle.om3.specs.Looked.{Covers, LiesWithin}
+use Rattle.kit.proofs.{_≡_, refl, Bool, true, false, cond, List, map, ⊎-elim, ℕ, zero, suc, _+_, _≤_, _<_, le-refl}
+use Rattle.kit.proofs.{eq-or-lt-of-le, arith, ℤ}
+use Rattle.signed.proofs.{min-parts, max-parts, signed}
+use Rattle.words.specs.declared.{Range.Range, Range.the-variants.Empty, Range.the-variants.Held}
+use Rattle.om3.specs.Document.{upFrom, isGap, hour, hoursFrom, hourOf, hourRange, both, look, Covers, LiesWithin}
 
 -- The order.
 pub within-refl : (r : Range) → LiesWithin r r

@@ -1,22 +1,12 @@
 -- What is reached at a node of the table of a series is the range of the node's hours. Assumes nothing.
-use mathlib.Core.Path.{_≡_, _∙_}
-use mathlib.Core.List.{List}
-use mathlib.Core.Logic.{⊎-elim}
-use Prim.Native.Nat.{ℕ, zero, suc, _+_, _*_, _/_, _%_, _^_, _≤_, _<_}
-use native.Mathlib.Nat.{two-pow-succ, eq-or-lt-of-le}
-use native.Mathlib.Omega.{arith}
-use lib.IntN.{ℤ}
-use borrow.Author.Tests.{eq-eqb, ne-eqb}
+use Rattle.kit.proofs.{_≡_, _∙_, List, ⊎-elim, ℕ, zero, suc, _+_, _*_, _/_, _%_, _^_, _≤_, _<_, two-pow-succ}
+use Rattle.kit.proofs.{eq-or-lt-of-le, arith, ℤ, eq-eqb, ne-eqb}
 use Rattle.words.specs.declared.Range.{Range}
-use Rattle.words.specs.Bounds.{Readings}
-use Rattle.om3.specs.Series.{Holds, hour, hourOf}
-use Rattle.om3.specs.Nodes.{Node, InTree, root, left, right, start}
-use Rattle.om3.specs.Ranges.{rangeOf}
-use Rattle.om3.specs.Table.{Table, pairCode, tableOf}
-use Rattle.om3.specs.Down.{coefficientAt, rootRange, leftOf, rightOf, reachedAt, reached}
-use Rattle.om3.proofs.Tests.{even-or-odd}
-use Rattle.om3.proofs.Nodes.{pair-yes, pair-no}
-use Rattle.om3.proofs.Ranges.{range-halves, readings-range}
+use Rattle.words.specs.{Readings}
+use Rattle.om3.specs.Document.{Holds, hour, hourOf, Node, InTree, root, left, right, start, rangeOf, Table}
+use Rattle.om3.specs.Document.{pairCode, tableOf, coefficientAt, rootRange, leftOf, rightOf, reachedAt, reached}
+use Rattle.om3.proofs.{Tests.even-or-odd, Nodes.pair-yes, Nodes.pair-no, Ranges.range-halves}
+use Rattle.om3.proofs.{Ranges.readings-range}
 use Rattle.om3.proofs.Down.{left-back, right-back, root-back, first-back, second-back}
 use Rattle.om3.proofs.Places.{root-low, root-high, low-place, high-place, code-place, hour-range}
 

@@ -1,26 +1,15 @@
 -- What the bytes of a written record state: its fields and its table are read back as they were written. A field stands
 -- where the bytes before it end; the header has seven bytes and each coefficient three. Assumes nothing.
-use mathlib.Core.Path.{_≡_, refl, sym, ap, _∙_}
-use mathlib.Core.Bool.{false}
-use mathlib.Core.List.{List, [], _∷_, _++_, map, flatMap}
-use Prim.Native.Nat.{ℕ, zero, suc, _+_, _*_, _/_, _^_, _≤_, _<_}
-use native.Mathlib.Omega.{arith}
-use lib.IntN.{ℤ, pos}
-use lib.ListN.{length, getD, take, drop, length-append}
-use lib.Seq.{length-take-le, getD-take, drop-at, drop-drop, take-all, ext-getD}
-use Rattle.words.specs.Constants.{largestHours, version}
-use Rattle.om3.specs.Lists.{upFrom}
-use Rattle.om3.specs.Series.{P}
-use Rattle.om3.specs.Table.{Table}
-use Rattle.om3.specs.Refusals.{tableShort}
-use Rattle.om3.specs.Bytes.{Bytes, bytesOf, InThree, threeBytes, signedFrom, bytesAt}
-use Rattle.om3.specs.Record.{recordLength, recordSize, recordOf, headerOf, headerSize, lengthIn, versionIn}
-use Rattle.om3.specs.Record.{hoursIn, coefficientIn, tableIn}
-use Rattle.om3.proofs.Lists.{map-up-length, map-up-from-0}
-use Rattle.om3.proofs.Levels.{P-most}
-use Rattle.om3.proofs.Lent.{coefficients-there, codes-there}
+use Rattle.kit.proofs.{_≡_, refl, sym, ap, _∙_, false, List, [], _∷_, _++_, map, flatMap, ℕ, zero, suc, _+_, _*_, _/_}
+use Rattle.kit.proofs.{_^_, _≤_, _<_, arith, ℤ, pos, length, getD, take, drop, length-append, length-take-le, getD-take}
+use Rattle.kit.proofs.{drop-at, drop-drop, take-all, ext-getD}
+use Rattle.words.specs.{largestHours, version}
+use Rattle.om3.specs.Document.{upFrom, P, Table, tableShort, Bytes, bytesOf, InThree, threeBytes, signedFrom}
+use Rattle.om3.specs.Document.{bytesAt, recordLength, recordSize, recordOf, headerOf, headerSize, lengthIn}
+use Rattle.om3.specs.Document.{versionIn, hoursIn, coefficientIn, tableIn}
+use Rattle.om3.proofs.{Lists.map-up-length, Lists.map-up-from-0, Levels.P-most, Lent.coefficients-there}
+use Rattle.om3.proofs.{Lent.codes-there, ThreeBytes.three-back, ThreeBytes.threes-size}
 use Rattle.om3.proofs.Bytes.{bytes-length, bytes-back, bytes-take, bytes-append, bytes-are}
-use Rattle.om3.proofs.ThreeBytes.{three-back, threes-size}
 
 pub header-size : (stated n : ℕ) → length (headerOf stated n) ≡ headerSize
 header-size stated n =

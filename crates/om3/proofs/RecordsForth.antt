@@ -1,22 +1,13 @@
 -- Bytes that opening takes are the record of the table that they state: one table has one record. They are read as five
 -- parts, of which each is what writing puts there. Assumes nothing.
-use mathlib.Core.Path.{_≡_, refl, sym, ap, ap₂, _∙_}
-use mathlib.Core.List.{List, _++_, map, flatMap}
-use Prim.Native.Nat.{ℕ, zero, suc, _+_, _*_, _/_, _≤_}
-use native.Mathlib.Omega.{arith}
-use lib.ListN.{length, take, drop, length-drop}
-use lib.Seq.{length-take-le, take-add, take-all, drop-drop}
-use Rattle.words.specs.Constants.{version}
-use Rattle.om3.specs.Lists.{upFrom}
-use Rattle.om3.specs.Series.{P}
-use Rattle.om3.specs.Checks.{passes, inOrder}
-use Rattle.om3.specs.Bytes.{Bytes, bytesOf, numberFrom, threeBytes, bytesAt}
-use Rattle.om3.specs.Record.{recordLength, recordOf, headerSize, hoursIn, coefficientIn, tableIn}
-use Rattle.om3.specs.RecordCalls.{openingChecks, Openable}
-use Rattle.om3.proofs.Lists.{map-up-length}
+use Rattle.kit.proofs.{_≡_, refl, sym, ap, ap₂, _∙_, List, _++_, map, flatMap, ℕ, zero, suc, _+_, _*_, _/_, _≤_, arith}
+use Rattle.kit.proofs.{length, take, drop, length-drop, length-take-le, take-add, take-all, drop-drop}
+use Rattle.words.specs.{version}
+use Rattle.om3.specs.Document.{upFrom, P, passes, inOrder, Bytes, bytesOf, numberFrom, threeBytes, bytesAt}
+use Rattle.om3.specs.Document.{recordLength, recordOf, headerSize, hoursIn, coefficientIn, tableIn, openingChecks}
+use Rattle.om3.specs.Document.{Openable}
+use Rattle.om3.proofs.{Lists.map-up-length, ThreeBytes.three-forth, RecordsOpened.opens-formed}
 use Rattle.om3.proofs.Bytes.{bytes-take, bytes-drop, bytes-forth}
-use Rattle.om3.proofs.ThreeBytes.{three-forth}
-use Rattle.om3.proofs.RecordsOpened.{opens-formed}
 
 -- Two parts of a list that meet are one part.
 parts-meet : (r : List ℕ) (p w v : ℕ) → bytesAt r p w ++ bytesAt r (p + w) v ≡ bytesAt r p (w + v)

@@ -1,30 +1,17 @@
 -- Opening takes a list of numbers exactly if its fields and its length fit one another; a written record is taken.
 -- Assumes nothing.
-use mathlib.Core.Path.{_≡_, refl, sym}
-use mathlib.Core.Bool.{Bool, true, false, not}
-use mathlib.Core.List.{List, [], _∷_}
-use mathlib.Core.Logic.{_↔_}
-use Prim.Native.Nat.{ℕ, _+_, _*_, _≤_, _<_}
-use native.Mathlib.Omega.{arith}
-use lib.Dec.{leb, ltb, eqb}
-use lib.IntN.{pos}
-use lib.ListN.{length, getD}
-use borrow.Author.Tests.{le-ltb, leb-false, ltb-false, eq-eqb, eqb-true, not-false}
-use Rattle.words.specs.Constants.{largestHours, version}
+use Rattle.kit.proofs.{_≡_, refl, sym, Bool, true, false, not, List, [], _∷_, _↔_, ℕ, _+_, _*_, _≤_, _<_, arith, leb}
+use Rattle.kit.proofs.{ltb, eqb, pos, length, getD, le-ltb, leb-false, ltb-false, eq-eqb, eqb-true, not-false}
+use Rattle.words.specs.{largestHours, version}
 use Rattle.words.specs.declared.Asking.{Asking}
 use Rattle.words.specs.declared.Refusal.{Refusal}
 use Rattle.words.specs.declared.Refusal.the-variants.{BadHours, CutShort, BadVersion, BadLength, BytesAfter}
 use Rattle.words.specs.declared.Refusal.the-variants.{BadPlace}
-use Rattle.om3.specs.Series.{badHours, P}
-use Rattle.om3.specs.Table.{Table}
-use Rattle.om3.specs.Checks.{Check, passes, refuses, refuseIf, andThen, inOrder, answerBy}
-use Rattle.om3.specs.Refusals.{tableShort}
-use Rattle.om3.specs.Record.{recordLength, recordOf, headerSize, lengthIn, versionIn, hoursIn, coefficientIn}
-use Rattle.om3.specs.Record.{tableIn}
-use Rattle.om3.specs.RecordCalls.{openingChecks, Openable, checkPlace, checkReach, askingView, asking}
-use Rattle.om3.proofs.Lists.{map-up-from-0}
-use Rattle.om3.proofs.Examined.{first-absent, in-order-append}
-use Rattle.om3.proofs.Taken.{good-hours}
+use Rattle.om3.specs.Document.{badHours, P, Table, Check, passes, refuses, refuseIf, andThen, inOrder, answerBy}
+use Rattle.om3.specs.Document.{tableShort, recordLength, recordOf, headerSize, lengthIn, versionIn, hoursIn}
+use Rattle.om3.specs.Document.{coefficientIn, tableIn, openingChecks, Openable, checkPlace, checkReach}
+use Rattle.om3.specs.Document.{askingView, asking}
+use Rattle.om3.proofs.{Lists.map-up-from-0, Examined.first-absent, Examined.in-order-append, Taken.good-hours}
 use Rattle.om3.proofs.Records.{record-length-in, record-version-in, record-hours-in, record-size}
 
 module _ (r : List ℕ) where

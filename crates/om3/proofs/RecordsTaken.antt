@@ -1,33 +1,17 @@
 -- Reading takes a record exactly if some series has it, and that series is the only one: a record that is taken is that
 -- of the table it states, and the table is sound exactly if some series has it. Assumes nothing.
-use mathlib.Core.Path.{_≡_, sym, ap, _∙_}
-use mathlib.Core.Bool.{true, false}
-use mathlib.Core.List.{List, [], _∷_}
-use mathlib.Core.Logic.{_↔_}
-use Prim.Native.Nat.{ℕ, _+_, _*_, _/_, _≤_}
-use native.Mathlib.Omega.{arith}
-use lib.IntN.{ℤ}
-use lib.ListN.{take}
-use Rattle.words.specs.Constants.{largestHours}
-use Rattle.om3.specs.Series.{Series, levels, P}
-use Rattle.om3.specs.Table.{Table, coefficient, codeOfPlace, tableOf, HasTable}
-use Rattle.om3.specs.Down.{turnedBack}
-use Rattle.om3.specs.Checks.{passes, andThen, inOrder}
-use Rattle.om3.specs.Sound.{soundTable}
-use Rattle.om3.specs.Refusals.{tableShort, checkRoom, examineTable}
-use Rattle.om3.specs.Bytes.{Bytes}
-use Rattle.om3.specs.Record.{recordOf, HasRecord, headerSize, hoursIn, coefficientIn, tableIn}
-use Rattle.om3.specs.RecordCalls.{openingChecks, unpackingChecks}
-use Rattle.om3.proofs.Lists.{map-up-length}
-use Rattle.om3.proofs.Levels.{levels-some}
+use Rattle.kit.proofs.{_≡_, sym, ap, _∙_, true, false, List, [], _∷_, _↔_, ℕ, _+_, _*_, _/_, _≤_, arith, ℤ, take}
+use Rattle.words.specs.{largestHours}
+use Rattle.om3.specs.Document.{Series, levels, P, Table, coefficient, codeOfPlace, tableOf, HasTable, turnedBack}
+use Rattle.om3.specs.Document.{passes, andThen, inOrder, soundTable, tableShort, checkRoom, examineTable, Bytes}
+use Rattle.om3.specs.Document.{recordOf, HasRecord, headerSize, hoursIn, coefficientIn, tableIn, openingChecks}
+use Rattle.om3.specs.Document.{unpackingChecks}
+use Rattle.om3.proofs.{Lists.map-up-length, Levels.levels-some, Lent.not-short, Making.good-some}
+use Rattle.om3.proofs.{Threes.sound-threes, Records.record-hours-in, Records.record-table-in}
+use Rattle.om3.proofs.{RecordsOpened.opens-formed, RecordsOpened.record-opens, RecordsForth.part-length}
+use Rattle.om3.proofs.{RecordsForth.record-forth}
 use Rattle.om3.proofs.Examined.{then-first, then-passes, in-order-append, examine-sound}
-use Rattle.om3.proofs.Lent.{not-short}
 use Rattle.om3.proofs.Demand2.{made-has, made-turned, has-sound, turned-series, turned-has}
-use Rattle.om3.proofs.Making.{good-some}
-use Rattle.om3.proofs.Threes.{sound-threes}
-use Rattle.om3.proofs.Records.{record-hours-in, record-table-in}
-use Rattle.om3.proofs.RecordsOpened.{opens-formed, record-opens}
-use Rattle.om3.proofs.RecordsForth.{part-length, record-forth}
 
 -- The checks of reading are those of opening, then 3 and 4.
 pub unpacking-parted : (r : List ℕ) (lent : Table) → inOrder (unpackingChecks r lent)

@@ -1,25 +1,11 @@
 -- What a sound pair says: its hours join to its range, each is one reading or a gap, and they give its code back.
 -- Assumes nothing.
-use mathlib.Core.Path.{_≡_, refl, sym}
-use mathlib.Core.Bool.{true, false, _&&_, _||_}
-use mathlib.Core.Logic.{⊎-elim}
-use Prim.Native.Nat.{ℕ}
-use lib.Dec.{eqb}
-use lib.IntN.{ℤ}
-use lib.Signed.{ltZ}
-use borrow.Author.Tests.{eqb-true}
-use Rattle.signed.specs.Choice.{minZ, maxZ, eqZ}
-use Rattle.signed.proofs.Choices.{min-parts, max-parts, eqZ-true}
-use Rattle.signed.proofs.Rules.{signed}
-use Rattle.words.specs.Said.{lowOf}
-use Rattle.words.specs.declared.Range.{Range}
-use Rattle.words.specs.declared.Range.the-variants.{Empty, Held}
-use Rattle.words.specs.Bounds.{Readings}
-use Rattle.om3.specs.Series.{isGap}
-use Rattle.om3.specs.Ranges.{hourRange}
-use Rattle.om3.specs.Table.{code}
-use Rattle.om3.specs.Down.{firstOfPair, secondOfPair}
-use Rattle.om3.specs.Sound.{soundCode}
+use Rattle.kit.proofs.{_≡_, refl, sym, true, false, _&&_, _||_, ⊎-elim, ℕ, eqb, ℤ, ltZ, eqb-true}
+use Rattle.signed.specs.{minZ, maxZ, eqZ}
+use Rattle.signed.proofs.{min-parts, max-parts, eqZ-true, signed}
+use Rattle.words.specs.{lowOf, Readings}
+use Rattle.words.specs.declared.{Range.Range, Range.the-variants.Empty, Range.the-variants.Held}
+use Rattle.om3.specs.Document.{isGap, hourRange, code, firstOfPair, secondOfPair, soundCode}
 use Rattle.om3.proofs.Tests.{and-left, and-right, or-cases}
 use Rattle.om3.proofs.SoundDetails.{Halves, low-no-gap, high-no-gap}
 

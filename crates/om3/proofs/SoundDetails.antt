@@ -1,27 +1,13 @@
 -- What sound root values and a sound node that is not a pair say: its halves join to its range, and they give its
 -- details back. Assumes nothing.
-use mathlib.Core.Path.{_≡_, refl, sym}
-use mathlib.Core.Bool.{true, false, _&&_, _||_}
-use mathlib.Core.Logic.{⊎-elim}
-use Prim.Native.Nat.{ℕ}
-use lib.Dec.{lit<}
-use lib.IntN.{ℤ, pos, negℤ}
-use lib.Signed.{leZ, _≤ℤ_}
-use Rattle.signed.specs.Choice.{minZ, maxZ, isNumber}
-use Rattle.signed.proofs.Sums.{sub-parts}
-use Rattle.signed.proofs.Choices.{min-parts, max-parts, isNumber-true}
-use Rattle.signed.proofs.Rules.{signed}
-use Rattle.words.specs.Constants.{largestReading, largestDetail, leftMark, rightMark, gapMark, gap}
-use Rattle.words.specs.Said.{lowOf, highOf}
-use Rattle.words.specs.declared.Range.{Range}
-use Rattle.words.specs.declared.Range.the-variants.{Empty, Held}
-use Rattle.words.specs.Bounds.{Readings}
-use Rattle.om3.specs.Series.{isReading, isGap}
-use Rattle.om3.specs.Ranges.{both}
-use Rattle.om3.specs.Table.{lowDetail, highDetail}
-use Rattle.om3.specs.Down.{leftLow, rightLow, leftHigh, rightHigh, leftHalf, rightHalf}
-use Rattle.om3.specs.Down.{rootRange}
-use Rattle.om3.specs.Sound.{soundRootValues, isDetail, ordered, bothAre, soundDetails}
+use Rattle.kit.proofs.{_≡_, refl, sym, true, false, _&&_, _||_, ⊎-elim, ℕ, lit<, ℤ, pos, negℤ, leZ, _≤ℤ_}
+use Rattle.signed.specs.{minZ, maxZ, isNumber}
+use Rattle.signed.proofs.{sub-parts, min-parts, max-parts, isNumber-true, signed}
+use Rattle.words.specs.{largestReading, largestDetail, leftMark, rightMark, gapMark, gap, lowOf, highOf, Readings}
+use Rattle.words.specs.declared.{Range.Range, Range.the-variants.Empty, Range.the-variants.Held}
+use Rattle.om3.specs.Document.{isReading, isGap, both, lowDetail, highDetail, leftLow, rightLow, leftHigh}
+use Rattle.om3.specs.Document.{rightHigh, leftHalf, rightHalf, rootRange, soundRootValues, isDetail, ordered}
+use Rattle.om3.specs.Document.{bothAre, soundDetails}
 use Rattle.om3.proofs.Tests.{and-left, and-right, or-cases, between}
 use Rattle.om3.proofs.Down.{leftLow-parts, rightLow-parts, leftHigh-parts, rightHigh-parts, no-mark}
 

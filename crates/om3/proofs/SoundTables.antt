@@ -1,30 +1,18 @@
 -- In a sound table every range reached is one of readings, the ranges of a node's halves join to its own, and hours
 -- come out as single readings or gaps, from hour n on as gaps. Assumes nothing.
-use mathlib.Core.Path.{_≡_, _∙_}
-use mathlib.Core.Bool.{Bool, true, _&&_}
-use mathlib.Core.Logic.{⊎-elim}
-use Prim.Native.Nat.{ℕ, zero, suc, _-_, _/_, _^_, _≤_, _<_}
-use native.Mathlib.Nat.{two-pow-succ, eq-or-lt-of-le}
-use native.Mathlib.Omega.{arith}
-use lib.IntN.{ℤ}
-use Rattle.words.specs.Said.{lowOf}
+use Rattle.kit.proofs.{_≡_, _∙_, Bool, true, _&&_, ⊎-elim, ℕ, zero, suc, _-_, _/_, _^_, _≤_, _<_, two-pow-succ}
+use Rattle.kit.proofs.{eq-or-lt-of-le, arith, ℤ}
+use Rattle.words.specs.{lowOf, Readings}
 use Rattle.words.specs.declared.Range.{Range}
-use Rattle.words.specs.Bounds.{Readings}
-use Rattle.om3.specs.Lists.{every}
-use Rattle.om3.specs.Series.{hour}
-use Rattle.om3.specs.Nodes.{Node, InTree, number, left, right, start, firstHour}
-use Rattle.om3.specs.Ranges.{hourRange}
-use Rattle.om3.specs.Table.{Table}
-use Rattle.om3.specs.Down.{leftHalf, rightHalf, firstOfPair, secondOfPair, coefficientAt, lowDetailAt}
-use Rattle.om3.specs.Down.{highDetailAt, codeAt, reachedAt, reached}
-use Rattle.om3.specs.Sound.{soundRootValues, soundCode, gapFrom, soundPair, soundNode, tableNodes}
-use Rattle.om3.specs.Sound.{soundTable}
+use Rattle.om3.specs.Document.{every, hour, Node, InTree, number, left, right, start, firstHour, hourRange, Table}
+use Rattle.om3.specs.Document.{leftHalf, rightHalf, firstOfPair, secondOfPair, coefficientAt, lowDetailAt}
+use Rattle.om3.specs.Document.{highDetailAt, codeAt, reachedAt, reached, soundRootValues, soundCode, gapFrom}
+use Rattle.om3.specs.Document.{soundPair, soundNode, tableNodes, soundTable}
+use Rattle.om3.proofs.{Reached.reached-left, Reached.reached-right, NodeLists.each-in-table, SoundCodes.Coded}
+use Rattle.om3.proofs.{SoundCodes.coded}
 use Rattle.om3.proofs.Tests.{and-left, and-right, even-or-odd}
 use Rattle.om3.proofs.Nodes.{pair-yes, pair-no, start-hour}
-use Rattle.om3.proofs.Reached.{reached-left, reached-right}
-use Rattle.om3.proofs.NodeLists.{each-in-table}
 use Rattle.om3.proofs.SoundDetails.{Halves, root-values, Details, details}
-use Rattle.om3.proofs.SoundCodes.{Coded, coded}
 
 -- A single hour as it comes out: one reading or a gap, and from hour n on a gap.
 pub record HourOut (n k : ℕ) (r : Range) : Type 0 where

@@ -1,14 +1,7 @@
 -- Tests taken apart and put together, and cases of natural numbers. Assumes nothing.
-use mathlib.Core.Path.{_≡_, refl, sym, _∙_}
-use mathlib.Core.Bool.{Bool, true, false, _&&_, _||_}
-use mathlib.Core.Logic.{_⊎_, ⊎-elim, inl, inr}
-use Prim.Native.Nat.{ℕ, _+_, _-_, _*_, _/_, _%_, _≤_, _<_}
-use native.Mathlib.Nat.{eq-zero-or-pos}
-use native.Mathlib.Omega.{arith}
-use lib.IntN.{ℤ}
-use lib.Signed.{leZ, _≤ℤ_}
-use Rattle.signed.proofs.Parts.{clash}
-use Rattle.signed.proofs.Rules.{signed}
+use Rattle.kit.proofs.{_≡_, refl, sym, _∙_, Bool, true, false, _&&_, _||_, _⊎_, ⊎-elim, inl, inr, ℕ, _+_, _-_, _*_, _/_}
+use Rattle.kit.proofs.{_%_, _≤_, _<_, eq-zero-or-pos, arith, ℤ, leZ, _≤ℤ_}
+use Rattle.signed.proofs.{clash, signed}
 
 pub and-left : (a b : Bool) → (a && b) ≡ true → a ≡ true
 and-left true b e = refl

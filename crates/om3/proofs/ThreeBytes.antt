@@ -1,16 +1,9 @@
 -- Numbers in three bytes, two's complement: their size, decoding after encoding, the range, encoding after decoding,
 -- and one number in one way. Assumes nothing.
-use mathlib.Core.Path.{_≡_, refl, sym, ap, _∙_}
-use mathlib.Core.List.{List, [], _∷_, flatMap}
-use mathlib.Core.Logic.{⊎-elim}
-use Prim.Native.Nat.{ℕ, suc, _-_, _*_, _^_, _≤_, _<_}
-use native.Mathlib.Omega.{arith}
-use lib.IntN.{ℤ, pos, negsuc}
-use lib.ListN.{length, length-append}
-use borrow.Author.Tests.{lt-ltb, le-ltb}
-use Rattle.signed.proofs.Sums.{sub-parts}
-use Rattle.signed.proofs.Rules.{signed}
-use Rattle.om3.specs.Bytes.{Bytes, numberFrom, InThree, bitsOf, signedOf, threeBytes, signedFrom}
+use Rattle.kit.proofs.{_≡_, refl, sym, ap, _∙_, List, [], _∷_, flatMap, ⊎-elim, ℕ, suc, _-_, _*_, _^_, _≤_, _<_, arith}
+use Rattle.kit.proofs.{ℤ, pos, negsuc, length, length-append, lt-ltb, le-ltb}
+use Rattle.signed.proofs.{sub-parts, signed}
+use Rattle.om3.specs.Document.{Bytes, numberFrom, InThree, bitsOf, signedOf, threeBytes, signedFrom}
 use Rattle.om3.proofs.Tests.{below-or-not}
 use Rattle.om3.proofs.Bytes.{bytes-length, bytes-back, number-small, bytes-forth}
 

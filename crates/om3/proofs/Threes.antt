@@ -1,28 +1,13 @@
 -- Each coefficient of a sound table has room in three bytes: it is a root value, a detail of two ranges of readings, or
 -- a mark, and the largest of these is the mark of a gap. Assumes nothing.
-use mathlib.Core.Path.{_≡_, subst}
-use mathlib.Core.Bool.{true}
-use mathlib.Core.Logic.{⊎-elim}
-use Prim.Native.Nat.{ℕ, zero, suc, _+_, _-_, _*_, _/_, _^_, _≤_, _<_}
-use native.Mathlib.Nat.{two-pow-succ}
-use native.Mathlib.Omega.{arith}
-use lib.IntN.{ℤ, pos, negℤ, _-ℤ_}
-use lib.Signed.{_≤ℤ_}
-use lib.ListN.{getD}
-use Rattle.signed.proofs.Sums.{sub-parts}
-use Rattle.signed.proofs.Rules.{signed}
-use Rattle.words.specs.Constants.{largestDetail}
-use Rattle.words.specs.Said.{lowOf, highOf}
-use Rattle.words.specs.declared.Range.{Range}
-use Rattle.words.specs.declared.Range.the-variants.{Empty, Held}
-use Rattle.words.specs.Bounds.{Readings}
-use Rattle.om3.specs.Nodes.{Node, InTree, number}
-use Rattle.om3.specs.Table.{Table, lowDetail, highDetail}
-use Rattle.om3.specs.Down.{leftHalf, rightHalf, rootRange, coefficientAt, lowDetailAt, highDetailAt, reached}
-use Rattle.om3.specs.Sound.{soundTable}
-use Rattle.om3.specs.Bytes.{InThree}
-use Rattle.om3.proofs.Tests.{even-or-odd}
-use Rattle.om3.proofs.Nodes.{numbered}
+use Rattle.kit.proofs.{_≡_, subst, true, ⊎-elim, ℕ, zero, suc, _+_, _-_, _*_, _/_, _^_, _≤_, _<_, two-pow-succ, arith}
+use Rattle.kit.proofs.{ℤ, pos, negℤ, _-ℤ_, _≤ℤ_, getD}
+use Rattle.signed.proofs.{sub-parts, signed}
+use Rattle.words.specs.{largestDetail, lowOf, highOf, Readings}
+use Rattle.words.specs.declared.{Range.Range, Range.the-variants.Empty, Range.the-variants.Held}
+use Rattle.om3.specs.Document.{Node, InTree, number, Table, lowDetail, highDetail, leftHalf, rightHalf, rootRange}
+use Rattle.om3.specs.Document.{coefficientAt, lowDetailAt, highDetailAt, reached, soundTable, InThree}
+use Rattle.om3.proofs.{Tests.even-or-odd, Nodes.numbered}
 use Rattle.om3.proofs.SoundDetails.{RootValues, root-values, Details}
 use Rattle.om3.proofs.SoundTables.{root-sound, node-details, readings-reached}
 

@@ -1,34 +1,16 @@
 -- A sound table is the table of the hours that it turns back to. Assumes nothing.
-use mathlib.Core.Path.{_≡_, refl, sym, ap, _∙_}
-use mathlib.Core.Bool.{Bool, true, false, cond, _||_}
-use mathlib.Core.List.{List}
-use mathlib.Core.Logic.{⊎-elim}
-use Prim.Native.Nat.{ℕ, zero, suc, _+_, _-_, _*_, _/_, _^_, _≤_, _<_}
-use native.Mathlib.Nat.{two-pow-succ}
-use native.Mathlib.Omega.{arith}
-use lib.Dec.{ltb}
-use lib.IntN.{ℤ}
-use lib.ListN.{length, getD}
-use borrow.Author.Tests.{ltb-true}
-use Rattle.signed.proofs.Parts.{clash}
-use Rattle.words.specs.Constants.{gap}
-use Rattle.words.specs.Said.{lowOf, highOf}
-use Rattle.words.specs.declared.Range.{Range}
-use Rattle.words.specs.declared.Range.the-variants.{Empty, Held}
-use Rattle.om3.specs.Series.{hour, hourOf}
-use Rattle.om3.specs.Nodes.{Node, InTree, number, root, left, right, start}
-use Rattle.om3.specs.Ranges.{hourRange, isEmpty, rangeOf}
-use Rattle.om3.specs.Table.{Table, pairCode, codeOfPlace, tableOf}
-use Rattle.om3.specs.Down.{coefficientAt, lowDetailAt, highDetailAt, codeAt, reachedAt, reached, turnedBack}
-use Rattle.om3.specs.Sound.{soundTable}
-use Rattle.om3.proofs.Tests.{even-or-odd}
-use Rattle.om3.proofs.Lists.{map-up-length, map-up-from-0}
-use Rattle.om3.proofs.Levels.{half-pow}
+use Rattle.kit.proofs.{_≡_, refl, sym, ap, _∙_, Bool, true, false, cond, _||_, List, ⊎-elim, ℕ, zero, suc, _+_, _-_}
+use Rattle.kit.proofs.{_*_, _/_, _^_, _≤_, _<_, two-pow-succ, arith, ltb, ℤ, length, getD, ltb-true}
+use Rattle.signed.proofs.{clash}
+use Rattle.words.specs.{gap, lowOf, highOf}
+use Rattle.words.specs.declared.{Range.Range, Range.the-variants.Empty, Range.the-variants.Held}
+use Rattle.om3.specs.Document.{hour, hourOf, Node, InTree, number, root, left, right, start, hourRange, isEmpty}
+use Rattle.om3.specs.Document.{rangeOf, Table, pairCode, codeOfPlace, tableOf, coefficientAt, lowDetailAt}
+use Rattle.om3.specs.Document.{highDetailAt, codeAt, reachedAt, reached, turnedBack, soundTable}
+use Rattle.om3.proofs.{Tests.even-or-odd, Lists.map-up-length, Lists.map-up-from-0, Levels.half-pow}
+use Rattle.om3.proofs.{Nodes.numbered, Ranges.low-hour, Ranges.range-halves, SoundDetails.root-values}
 use Rattle.om3.proofs.Nodes.{root-in, left-in, right-in, start-hour, node-of-number}
-use Rattle.om3.proofs.Nodes.{numbered}
-use Rattle.om3.proofs.Ranges.{low-hour, range-halves}
 use Rattle.om3.proofs.Places.{root-low, root-high, low-place, high-place, hour-range}
-use Rattle.om3.proofs.SoundDetails.{root-values}
 use Rattle.om3.proofs.SoundTables.{root-sound, node-details, left-details, right-details, node-coded}
 use Rattle.om3.proofs.SoundTables.{left-coded, right-coded, readings-reached, halves-joined, hour-out}
 

@@ -1,29 +1,13 @@
 -- Where what is reached at each node is the range of its hours, the walk to the first reading from a node that has one
 -- ends at the first reading of the node's hours, and the walk to the last at the last: the half taken at each step has
 -- a reading, and its first or last is the node's own. Assumes nothing.
-use mathlib.Core.Path.{_≡_, refl, sym, ap, _∙_}
-use mathlib.Core.Bool.{Bool, true, false, cond}
-use mathlib.Core.List.{List}
-use Prim.Native.Nat.{ℕ, zero, suc, _+_, _<_}
-use native.Mathlib.Omega.{arith}
-use lib.IntN.{ℤ}
-use Rattle.words.specs.Said.{lowOf}
-use Rattle.words.specs.declared.Timestamp.{Timestamp}
-use Rattle.words.specs.declared.Reading.{Reading}
-use Rattle.words.specs.declared.Answer.{Answer}
-use Rattle.om3.specs.Series.{hour, hourOf}
-use Rattle.om3.specs.Nodes.{Node, InTree, left, right}
-use Rattle.om3.specs.Ranges.{rangeOf}
-use Rattle.om3.specs.Table.{Table}
-use Rattle.om3.specs.Down.{reached}
-use Rattle.om3.specs.Stopped.{hasReading}
-use Rattle.om3.specs.Finished.{walkEnd, towardsFirst, towardsLast, readingAt}
-use Rattle.om3.specs.Looked.{readingOf}
+use Rattle.kit.proofs.{_≡_, refl, sym, ap, _∙_, Bool, true, false, cond, List, ℕ, zero, suc, _+_, _<_, arith, ℤ}
+use Rattle.words.specs.{lowOf}
+use Rattle.words.specs.declared.{Timestamp.Timestamp, Reading.Reading, Answer.Answer}
+use Rattle.om3.specs.Document.{hour, hourOf, Node, InTree, left, right, rangeOf, Table, reached, hasReading}
+use Rattle.om3.specs.Document.{walkEnd, towardsFirst, towardsLast, readingAt, readingOf}
+use Rattle.om3.proofs.{Ranges.low-hour, Places.hour-range, Answers.joined-right, LookedThrough.hourAnswer}
 use Rattle.om3.proofs.Nodes.{left-in, right-in, start-hour}
-use Rattle.om3.proofs.Ranges.{low-hour}
-use Rattle.om3.proofs.Places.{hour-range}
-use Rattle.om3.proofs.Answers.{joined-right}
-use Rattle.om3.proofs.LookedThrough.{hourAnswer}
 use Rattle.om3.proofs.NodeAnswers.{nodeAnswer, Begins, Ends, begins-joined, ends-joined, found, hour-begins}
 use Rattle.om3.proofs.NodeAnswers.{hour-ends, answer-halves, answer-hour, reading-found, no-answer}
 

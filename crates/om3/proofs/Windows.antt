@@ -1,14 +1,9 @@
 -- The columns of a window hold its hours, each once and in order, and none before or after it. Assumes nothing.
-use mathlib.Core.Path.{_≡_, sym, ap, _∙_}
-use mathlib.Core.List.{List, _++_, map, map-append, flatMap}
-use Prim.Native.Nat.{ℕ, zero, suc, _+_, _-_, _≤_, _<_}
-use native.Mathlib.Nat.{add-zero, sub-self, zero-add}
-use native.Mathlib.Omega.{arith}
+use Rattle.kit.proofs.{_≡_, sym, ap, _∙_, List, _++_, map, map-append, flatMap, ℕ, zero, suc, _+_, _-_, _≤_, _<_}
+use Rattle.kit.proofs.{add-zero, sub-self, zero-add, arith}
 use Rattle.words.specs.declared.Timestamp.{Timestamp}
-use Rattle.om3.specs.Lists.{upFrom}
-use Rattle.om3.specs.Series.{hour, hoursFrom}
-use Rattle.om3.specs.Columns.{edge, column, columnHours}
-use Rattle.om3.proofs.Lists.{up-append}
+use Rattle.om3.specs.Document.{upFrom, hour, hoursFrom, edge, column, columnHours}
+use Rattle.om3.proofs.{Lists.up-append}
 use Rattle.om3.proofs.Edges.{edge-first, edge-last, edge-mono}
 
 hours-append : (f a b : ℕ) → hoursFrom f (a + b) ≡ hoursFrom f a ++ hoursFrom (f + a) b

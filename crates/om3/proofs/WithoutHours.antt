@@ -1,24 +1,10 @@
 -- A column without an hour shares none with any node: it has no outer and no inner range, no inside node and so no
 -- reading, and its count is 0. Assumes nothing.
-use mathlib.Core.Path.{_≡_, refl}
-use mathlib.Core.Bool.{Bool, false, not, _&&_, and-false}
-use mathlib.Core.List.{List, [], _∷_}
-use Prim.Native.Nat.{ℕ, _≤_}
-use native.Mathlib.Omega.{arith}
-use borrow.Author.Tests.{le-leb}
-use Rattle.words.specs.declared.Range.the-variants.{Empty}
-use Rattle.words.specs.declared.Answer.{Answer}
-use Rattle.words.specs.declared.Column.{Column}
-use Rattle.om3.specs.Lists.{keep}
-use Rattle.om3.specs.Nodes.{Node}
-use Rattle.om3.specs.Table.{Table}
-use Rattle.om3.specs.Sound.{allNodes}
-use Rattle.om3.specs.Stopped.{hasReading, shares, opened, visited, countAt, rangeOver, isOuter, isInner}
-use Rattle.om3.specs.Stopped.{outer, innerNodes, inner}
-use Rattle.om3.specs.Finished.{insideNodes, answer, count}
-use Rattle.om3.proofs.Tests.{fails-up}
-use Rattle.om3.proofs.Intervals.{shares-overlap}
-use Rattle.om3.proofs.KeptNodes.{inside-inner}
+use Rattle.kit.proofs.{_≡_, refl, Bool, false, not, _&&_, and-false, List, [], _∷_, ℕ, _≤_, arith, le-leb}
+use Rattle.words.specs.declared.{Range.the-variants.Empty, Answer.Answer, Column.Column}
+use Rattle.om3.specs.Document.{keep, Node, Table, allNodes, hasReading, shares, opened, visited, countAt}
+use Rattle.om3.specs.Document.{rangeOver, isOuter, isInner, outer, innerNodes, inner, insideNodes, answer, count}
+use Rattle.om3.proofs.{Tests.fails-up, Intervals.shares-overlap, KeptNodes.inside-inner}
 
 none-kept : (p : Node → Bool) → ((v : Node) → p v ≡ false) → (vs : List Node) → keep p vs ≡ []
 unfolding keep

@@ -24,3 +24,4 @@ pub mod Looked
 pub mod Drawn
 pub mod Questions
 pub mod Numbers
+pub mod Document

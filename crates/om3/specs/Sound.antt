@@ -18,21 +18,15 @@ use Prim.Native.Nat.{ℕ, zero, suc}
 use lib.Dec.{ltb, eqb}
 use lib.IntN.{ℤ, pos, negℤ}
 use lib.Signed.{leZ, ltZ}
-use Rattle.signed.specs.Choice.{isNumber, eqZ}
-use Rattle.words.specs.Constants.{largestDetail, leftMark, rightMark, gapMark}
-use Rattle.words.specs.declared.Timestamp.{Timestamp}
-use Rattle.words.specs.declared.NodeId.{NodeId}
-use Rattle.words.specs.declared.Range.{Range}
-use Rattle.words.specs.declared.Range.the-variants.{Empty, Held}
-use Rattle.words.specs.declared.Refusal.the-variants.{Unsound}
-use Rattle.om3.specs.Lists.{every}
-use Rattle.om3.specs.Checks.{Check, refuseIf, andThen, inOrder}
-use Rattle.om3.specs.Series.{isReading, isGap}
-use Rattle.om3.specs.Nodes.{Node, number, root, left, right, isPair, firstHour}
-use Rattle.om3.specs.Ranges.{isEmpty}
-use Rattle.om3.specs.Table.{Table}
-use Rattle.om3.specs.Down.{leftHalf, rightHalf, firstOfPair, secondOfPair, coefficientAt, lowDetailAt}
+use Rattle.signed.specs.{isNumber, eqZ}
+use Rattle.words.specs.{largestDetail, leftMark, rightMark, gapMark}
+use Rattle.words.specs.declared.{Timestamp.Timestamp, NodeId.NodeId, Range.Range, Range.the-variants.Empty}
+use Rattle.words.specs.declared.{Range.the-variants.Held, Refusal.the-variants.Unsound}
+use Rattle.om3.specs.{Lists.every, Series.isReading, Series.isGap, Ranges.isEmpty, Table.Table}
 use Rattle.om3.specs.Down.{highDetailAt, codeAt, reached}
+use Rattle.om3.specs.Checks.{Check, refuseIf, andThen, inOrder}
+use Rattle.om3.specs.Nodes.{Node, number, root, left, right, isPair, firstHour}
+use Rattle.om3.specs.Down.{leftHalf, rightHalf, firstOfPair, secondOfPair, coefficientAt, lowDetailAt}
 
 -- Both 2,000,003, or both readings with low ≤ high. [sound 1]
 abbrev pub soundRootValues : ℤ → ℤ → Bool

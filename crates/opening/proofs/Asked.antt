@@ -1,21 +1,10 @@
 -- Each answer of asking a record, which is opened before or not. Assumes nothing.
-use mathlib.Core.Path.{_≡_, refl, sym, ap, _∙_}
-use mathlib.Core.List.{List}
-use Prim.Native.Nat.{ℕ, _+_, _-_, _*_, _/_, _≤_, _<_}
-use native.Mathlib.Omega.{arith}
-use lib.IntN.{ℤ}
-use lib.ListN.{length, take, drop, length-drop}
-use lib.Seq.{take-all, drop-drop}
-use borrow.Author.Tests.{lt-leb, le-leb, lt-ltb, le-ltb}
-use Rattle.words.specs.declared.Refusal.{Refusal}
-use Rattle.words.specs.declared.Refusal.the-variants.{BadPlace, CutShort}
-use Rattle.words.specs.declared.Opening.{Opening}
-use Rattle.words.specs.declared.Asking.{Asking}
-use Rattle.om3.specs.Series.{P}
-use Rattle.om3.specs.Checks.{Check, passes, refuses, inOrder, answerBy}
-use Rattle.om3.specs.Bytes.{signedFrom}
-use Rattle.om3.specs.Record.{headerSize, hoursIn, coefficientIn}
-use Rattle.om3.specs.RecordCalls.{openingChecks, opening, askingView, asking}
+use Rattle.kit.proofs.{_≡_, refl, sym, ap, _∙_, List, ℕ, _+_, _-_, _*_, _/_, _≤_, _<_, arith, ℤ, length, take, drop}
+use Rattle.kit.proofs.{length-drop, take-all, drop-drop, lt-leb, le-leb, lt-ltb, le-ltb}
+use Rattle.words.specs.declared.{Refusal.Refusal, Refusal.the-variants.BadPlace, Refusal.the-variants.CutShort}
+use Rattle.words.specs.declared.{Opening.Opening, Asking.Asking}
+use Rattle.om3.specs.Document.{P, Check, passes, refuses, inOrder, answerBy, signedFrom, headerSize, hoursIn}
+use Rattle.om3.specs.Document.{coefficientIn, openingChecks, opening, askingView, asking}
 use Rattle.om3.proofs.RecordsOpened.{asking-opened, asking-refused}
 use Rattle.packing.specs.Packing.{coefficientFrom}
 

@@ -1,23 +1,13 @@
 -- Each answer of opening a record, its checks in their order. Assumes nothing.
-use mathlib.Core.Path.{_≡_, _∙_}
-use mathlib.Core.Bool.{true, false}
-use mathlib.Core.List.{List, [], _∷_}
-use Prim.Native.Nat.{ℕ, _+_, _≤_, _<_}
-use native.Mathlib.Omega.{arith}
-use lib.Dec.{ltb}
-use lib.ListN.{length, getD}
-use lib.Seq.{drop-cons}
-use borrow.Author.Tests.{lt-ltb, le-ltb, ne-eqb, eq-eqb}
-use Rattle.words.specs.Constants.{version}
+use Rattle.kit.proofs.{_≡_, _∙_, true, false, List, [], _∷_, ℕ, _+_, _≤_, _<_, arith, ltb, length, getD, drop-cons}
+use Rattle.kit.proofs.{lt-ltb, le-ltb, ne-eqb, eq-eqb}
+use Rattle.words.specs.{version}
 use Rattle.words.specs.declared.Refusal.{Refusal}
 use Rattle.words.specs.declared.Refusal.the-variants.{BadHours, CutShort, BadVersion, BadLength, BytesAfter}
 use Rattle.words.specs.declared.Opening.{Opening}
-use Rattle.om3.specs.Series.{badHours, P}
-use Rattle.om3.specs.Checks.{refuses, refuseIf, inOrder}
-use Rattle.om3.specs.Refusals.{checkHours}
-use Rattle.om3.specs.Bytes.{numberFrom}
-use Rattle.om3.specs.Record.{recordLength, recordSize, headerSize, lengthIn, versionIn, hoursIn}
-use Rattle.om3.specs.RecordCalls.{checkLength, checkCut, checkAfter, openingChecks, opening}
+use Rattle.om3.specs.Document.{badHours, P, refuses, refuseIf, inOrder, checkHours, numberFrom, recordLength}
+use Rattle.om3.specs.Document.{recordSize, headerSize, lengthIn, versionIn, hoursIn, checkLength, checkCut, checkAfter}
+use Rattle.om3.specs.Document.{openingChecks, opening}
 
 module _ (r : List ℕ) where
   refused : (why : Refusal) → inOrder (openingChecks r) ≡ refuses why → Opening.Refused why ≡ opening r

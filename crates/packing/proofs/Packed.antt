@@ -1,20 +1,12 @@
 -- Coefficients packed one after the other, three bytes each: the bytes of one of them, one more packed, one more
 -- unpacked. Assumes nothing.
-use mathlib.Core.Path.{_≡_, refl, sym, ap, _∙_}
-use mathlib.Core.List.{List, [], _∷_, _++_, map, flatMap, append-nil, append-assoc, map-append}
-use Prim.Native.Nat.{ℕ, suc, _+_, _-_, _*_, _/_, _≤_, _<_}
-use native.Mathlib.Nat.{zero-add}
-use native.Mathlib.Omega.{arith}
-use lib.IntN.{ℤ, pos}
-use lib.ListN.{length, getD, take, drop, set}
-use lib.Seq.{take-all, take-suc, length-take-le}
-use Rattle.om3.specs.Lists.{upFrom}
-use Rattle.om3.specs.Calls.{filled}
-use Rattle.om3.specs.Bytes.{bytesOf, bytesAt, bitsOf, threeBytes}
-use Rattle.om3.proofs.Lists.{up-append, map-up-length}
+use Rattle.kit.proofs.{_≡_, refl, sym, ap, _∙_, List, [], _∷_, _++_, map, flatMap, append-nil, append-assoc, map-append}
+use Rattle.kit.proofs.{ℕ, suc, _+_, _-_, _*_, _/_, _≤_, _<_, zero-add, arith, ℤ, pos, length, getD, take, drop, set}
+use Rattle.kit.proofs.{take-all, take-suc, length-take-le}
+use Rattle.om3.specs.Document.{upFrom, filled, bytesOf, bytesAt, bitsOf, threeBytes}
+use Rattle.om3.proofs.{Lists.up-append, Lists.map-up-length, ThreeBytes.three-size, ThreeBytes.threes-size}
+use Rattle.om3.proofs.{RecordsForth.part-length}
 use Rattle.om3.proofs.Filled.{filled-length, filled-part, filled-set, filled-all}
-use Rattle.om3.proofs.ThreeBytes.{three-size, threes-size}
-use Rattle.om3.proofs.RecordsForth.{part-length}
 use Rattle.packing.specs.Packing.{coefficientFrom, unpacked}
 
 -- The part of place p goes from 3p up to, not including, 3p + 3.

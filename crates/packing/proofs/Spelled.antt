@@ -1,14 +1,10 @@
 -- Numbers spelled byte by byte: one byte more at the low end, read or written. Assumes nothing.
-use mathlib.Core.Path.{_≡_, refl, sym, ap, _∙_}
-use mathlib.Core.List.{List, [], _∷_, _++_, append-nil}
-use Prim.Native.Nat.{ℕ, suc, _+_, _-_, _*_, _/_, _%_, _^_, _≤_, _<_}
-use native.Mathlib.Nat.{pow-suc, div-div-eq-div-mul, mul-assoc, add-mul, sub-zero, pow-le-pow-right, div-one, le-refl}
-use native.Mathlib.Omega.{arith}
-use lib.Dec.{lit<}
-use lib.ListN.{length, getD, take, set, length-append}
-use lib.Seq.{take-all, take-length, take-suc, set-at, length-take-le, append-snoc}
+use Rattle.kit.proofs.{_≡_, refl, sym, ap, _∙_, List, [], _∷_, _++_, append-nil, ℕ, suc, _+_, _-_, _*_, _/_, _%_, _^_}
+use Rattle.kit.proofs.{_≤_, _<_, pow-suc, div-div-eq-div-mul, mul-assoc, add-mul, sub-zero, pow-le-pow-right, div-one}
+use Rattle.kit.proofs.{le-refl, arith, lit<, length, getD, take, set, length-append, take-all, take-length, take-suc}
+use Rattle.kit.proofs.{set-at, length-take-le, append-snoc}
 use Rattle.om3.proofs.Bytes.{bytes-length}
-use Rattle.om3.specs.Bytes.{bytesOf, numberFrom}
+use Rattle.om3.specs.Document.{bytesOf, numberFrom}
 
 -- A byte more multiplies what was spelled before by 256.
 number-snoc : (bs : List ℕ) (b : ℕ) → numberFrom (bs ++ (b ∷ [])) ≡ numberFrom bs * 256 + b

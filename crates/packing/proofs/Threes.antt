@@ -1,15 +1,8 @@
 -- A coefficient in 24 bits, two's complement, as the code computes it: by its sign, with 2^24 added or taken away.
 -- Assumes nothing.
-use mathlib.Core.Path.{_≡_, refl}
-use mathlib.Core.Bool.{true, false}
-use Prim.Native.Nat.{ℕ, _^_, _≤_}
-use lib.IntN.{ℤ, pos, negsuc, natAbs, _+ℤ_, _-ℤ_}
-use lib.Signed.{ltZ}
-use borrow.Author.Tests.{le-ltb}
-use Rattle.signed.proofs.Sums.{add-parts}
-use Rattle.signed.proofs.Widths.{natAbs-parts}
-use Rattle.signed.proofs.Rules.{signed}
-use Rattle.om3.specs.Bytes.{InThree, bitsOf, signedOf}
+use Rattle.kit.proofs.{_≡_, refl, true, false, ℕ, _^_, _≤_, ℤ, pos, negsuc, natAbs, _+ℤ_, _-ℤ_, ltZ, le-ltb}
+use Rattle.signed.proofs.{add-parts, natAbs-parts, signed}
+use Rattle.om3.specs.Document.{InThree, bitsOf, signedOf}
 
 pub bits-below : (z : ℤ) → InThree z → ltZ z (pos 0) ≡ true → natAbs (z +ℤ pos (2 ^ 24)) ≡ bitsOf z
 bits-below (pos m) h e = absurd (omega signed)

@@ -1,23 +1,11 @@
 -- Each answer of reading the parts of an opened record: checks 3 and 4 in their order, and a sound table, unpacked into
 -- the first places of the buffers. Assumes nothing.
-use mathlib.Core.Path.{_≡_, sym, _∙_}
-use mathlib.Core.Bool.{Bool, true, false, _||_}
-use mathlib.Core.List.{List, _++_}
-use Prim.Native.Nat.{ℕ, _/_, _≤_}
-use native.Mathlib.Omega.{arith}
-use lib.IntN.{ℤ}
-use lib.ListN.{length, take, drop}
-use lib.Seq.{take-length}
-use Rattle.words.specs.declared.NodeId.{NodeId}
-use Rattle.words.specs.declared.Refusal.{Refusal}
+use Rattle.kit.proofs.{_≡_, sym, _∙_, Bool, true, false, _||_, List, _++_, ℕ, _/_, _≤_, arith, ℤ, length, take, drop}
+use Rattle.kit.proofs.{take-length}
+use Rattle.words.specs.declared.{NodeId.NodeId, Refusal.Refusal, Unpacking.Unpacking}
 use Rattle.words.specs.declared.Refusal.the-variants as refusal
-use Rattle.words.specs.declared.Unpacking.{Unpacking}
-use Rattle.om3.specs.Series.{P}
-use Rattle.om3.specs.Table.{lent}
-use Rattle.om3.specs.Checks.{Check, refuses, inOrder}
-use Rattle.om3.specs.Refusals.{short, tableShort, examineTable}
-use Rattle.om3.proofs.Examined.{then-passes}
-use Rattle.om3.proofs.Lent.{coefficients-there, codes-there}
+use Rattle.om3.specs.Document.{P, lent, Check, refuses, inOrder, short, tableShort, examineTable}
+use Rattle.om3.proofs.{Examined.then-passes, Lent.coefficients-there, Lent.codes-there}
 use Rattle.examining.specs.declared.Verdict.{Verdict}
 use Rattle.examining.specs.Examining.{checkOf}
 use Rattle.packing.specs.Packing.{unpacked}

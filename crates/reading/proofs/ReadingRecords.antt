@@ -1,25 +1,11 @@
 -- Reading a record is reading its parts once it is opened: they are the table that its bytes state. Assumes nothing.
-use mathlib.Core.Path.{_≡_, refl, sym, ap, ap₂, _∙_}
-use mathlib.Core.List.{List}
-use Prim.Native.Nat.{ℕ, _+_, _-_, _*_, _/_, _≤_, _<_}
-use native.Mathlib.Omega.{arith}
-use lib.IntN.{ℤ, pos}
-use lib.ListN.{length, take, drop, length-drop}
-use lib.Seq.{length-take-le, take-take, take-add, drop-at, drop-drop, ext-getD}
-use Rattle.words.specs.declared.Refusal.{Refusal}
-use Rattle.words.specs.declared.Opening.{Opening}
-use Rattle.words.specs.declared.Unpacking.{Unpacking}
-use Rattle.om3.specs.Series.{P}
-use Rattle.om3.specs.Table.{lent}
-use Rattle.om3.specs.Checks.{Check, passes, refuses, inOrder, answerBy}
-use Rattle.om3.specs.Calls.{writtenBy}
-use Rattle.om3.specs.Bytes.{signedFrom, bytesAt}
-use Rattle.om3.specs.Record.{headerSize, hoursIn, coefficientIn, tableIn}
-use Rattle.om3.specs.RecordCalls.{openingChecks, unpackingChecks, opening}
-use Rattle.om3.proofs.Lists.{map-up-length}
-use Rattle.om3.proofs.Making.{good-some}
-use Rattle.om3.proofs.RecordsOpened.{opens-formed, asked-unpacked}
-use Rattle.om3.proofs.RecordsTaken.{unpacking-parted}
+use Rattle.kit.proofs.{_≡_, refl, sym, ap, ap₂, _∙_, List, ℕ, _+_, _-_, _*_, _/_, _≤_, _<_, arith, ℤ, pos, length, take}
+use Rattle.kit.proofs.{drop, length-drop, length-take-le, take-take, take-add, drop-at, drop-drop, ext-getD}
+use Rattle.words.specs.declared.{Refusal.Refusal, Opening.Opening, Unpacking.Unpacking}
+use Rattle.om3.specs.Document.{P, lent, Check, passes, refuses, inOrder, answerBy, writtenBy, signedFrom, bytesAt}
+use Rattle.om3.specs.Document.{headerSize, hoursIn, coefficientIn, tableIn, openingChecks, unpackingChecks, opening}
+use Rattle.om3.proofs.{Lists.map-up-length, Making.good-some, RecordsOpened.opens-formed, RecordsOpened.asked-unpacked}
+use Rattle.om3.proofs.{RecordsTaken.unpacking-parted}
 use Rattle.packing.specs.Packing.{coefficientFrom, unpacked}
 use Rattle.examining_bytes.specs.Packed.{PackedTable}
 use Rattle.reading.specs.Reading.{partsCheck, PartsRead, RecordRead}

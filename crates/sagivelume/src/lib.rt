@@ -22,9 +22,14 @@ ghost use Rattle.om3.specs.Stopped.{stopped};
 ghost use Rattle.om3.specs.Finished.{finished};
 ghost use Rattle.om3.specs.Joined.{joined};
 ghost use Rattle.om3.specs.Days.{dayChange};
-ghost use Rattle.told.specs.Records.{openingTold, askingTold};
+ghost use Rattle.making.specs.Making.{Made};
+ghost use Rattle.turning.specs.Turning.{TurnedBack};
+ghost use Rattle.writing.specs.Writing.{RecordWritten};
+ghost use Rattle.reading.specs.Reading.{RecordRead};
+ghost use Rattle.told.specs.Tables.{takingTold};
+ghost use Rattle.told.specs.Records.{writingTold, unpackingTold, openingTold, askingTold};
 ghost use Rattle.told.specs.Columns.{edgesTold, stoppedTold, answerTold, answerIn, finishedTold, changeTold};
-ghost use Rattle.sagivelume.specs.Boundary.{MakeTold, TurnBackTold, WriteTold, ReadTold};
+ghost use Rattle.sagivelume.specs.Boundary.{Tells};
 
 // Makes the table of n hours of readings: needs n readings, P coefficients and P/2 codes. Refusals 1, 3, 2.
 #[no_mangle]
@@ -34,8 +39,8 @@ pub extern "C" fn sagivelume_make(
     coefficients: &mut [i32],
     codes: &mut [u8],
 ) -> Told
-    ensures { λ r. ⌜ MakeTold n (now (readings .entry))
-        (now (coefficients .entry)) (now (codes .entry)) (now (coefficients .exit)) (now (codes .exit)) r ⌝ }
+    ensures { λ r. ⌜ Tells (Made n (now (readings .entry)) (now (coefficients .entry)) (now (codes .entry))
+        (now (coefficients .exit)) (now (codes .exit))) takingTold r ⌝ }
 {
     told::tables::of_taking(making::make(n, readings, coefficients, codes))
 }
@@ -48,8 +53,8 @@ pub extern "C" fn sagivelume_turn_back(
     codes: &[u8],
     hours: &mut [i32],
 ) -> Told
-    ensures { λ r. ⌜ TurnBackTold n (now (coefficients .entry)) (now (codes .entry))
-        (now (hours .entry)) (now (hours .exit)) r ⌝ }
+    ensures { λ r. ⌜ Tells (TurnedBack n (now (coefficients .entry)) (now (codes .entry))
+        (now (hours .entry)) (now (hours .exit))) takingTold r ⌝ }
 {
     told::tables::of_taking(turning::turn_back(n, coefficients, codes, hours))
 }
@@ -71,8 +76,8 @@ pub extern "C" fn sagivelume_write_record(
     codes: &[u8],
     bytes: &mut [u8],
 ) -> ToldBytes
-    ensures { λ r. ⌜ WriteTold n (now (coefficients .entry)) (now (codes .entry))
-        (now (bytes .entry)) (now (bytes .exit)) r ⌝ }
+    ensures { λ r. ⌜ Tells (RecordWritten n (now (coefficients .entry)) (now (codes .entry))
+        (now (bytes .entry)) (now (bytes .exit))) writingTold r ⌝ }
 {
     told::records::of_writing(writing::write_record(n, coefficients, codes, bytes))
 }
@@ -84,8 +89,8 @@ pub extern "C" fn sagivelume_read_record(
     coefficients: &mut [i32],
     codes: &mut [u8],
 ) -> ToldHours
-    ensures { λ r. ⌜ ReadTold (now (bytes .entry))
-        (now (coefficients .entry)) (now (codes .entry)) (now (coefficients .exit)) (now (codes .exit)) r ⌝ }
+    ensures { λ r. ⌜ Tells (RecordRead (now (bytes .entry)) (now (coefficients .entry)) (now (codes .entry))
+        (now (coefficients .exit)) (now (codes .exit))) unpackingTold r ⌝ }
 {
     told::records::of_unpacking(reading::read_record(bytes, coefficients, codes))
 }

@@ -1,16 +1,7 @@
 -- The lesser and the greater of two numbers, and the tests of equality, in their parts. Assumes nothing.
-use mathlib.Core.Path.{_≡_, refl, sym, ap, _∙_}
-use mathlib.Core.Bool.{Bool, true, false, cond, _&&_}
-use Prim.Native.Nat.{ℕ, _+_, _<_, _^_, min, max}
-use native.Mathlib.Omega.{arith}
-use lib.IntN.{ℤ, pos, negsuc}
-use lib.Signed.{leZ}
-use mir.Syntax.{w32}
-use mir.Val.{SFits, toZ, ofZ}
-use mir.Facts.{toZ-ofZ}
-use lib.Dec.{eqb}
-use borrow.Author.Tests.{eqb-true, ne-eqb}
-use Rattle.signed.specs.Choice.{minZ, maxZ, eqZ, isNumber}
+use Rattle.kit.proofs.{_≡_, refl, sym, ap, _∙_, Bool, true, false, cond, _&&_, ℕ, _+_, _<_, _^_, min, max, arith, ℤ}
+use Rattle.kit.proofs.{pos, negsuc, leZ, w32, SFits, toZ, ofZ, toZ-ofZ, eqb, eqb-true, ne-eqb}
+use Rattle.signed.specs.{minZ, maxZ, eqZ, isNumber}
 use Rattle.signed.proofs.Parts.{up, dn, ≡-parts, parts-≡, leZ-true, leZ-false, true-leZ, clash}
 
 pub min-parts : (a b : ℤ) → up (minZ a b) + (dn a + dn b) ≡ min (up a + dn b) (up b + dn a) + dn (minZ a b)

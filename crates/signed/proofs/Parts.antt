@@ -1,13 +1,7 @@
 -- A signed number z is up z − dn z, for two natural numbers. Each order, equation and test of signed numbers is a
 -- linear fact of those parts, which `omega` reads. Assumes nothing.
-use mathlib.Core.Path.{_≡_, refl, sym, ap, subst}
-use mathlib.Core.Bool.{Bool, true, false}
-use Prim.Native.Nat.{ℕ, suc, _+_, _≤_, _<_}
-use native.Mathlib.Omega.{arith}
-use lib.Dec.{T}
-use lib.IntN.{ℤ, pos, negsuc}
-use lib.Signed.{leZ, ltZ, _≤ℤ_, _<ℤ_}
-use borrow.Author.Tests.{ltb-true, ltb-false, leb-true, leb-false, le-leb, lt-leb, lt-ltb, le-ltb}
+use Rattle.kit.proofs.{_≡_, refl, sym, ap, subst, Bool, true, false, ℕ, suc, _+_, _≤_, _<_, arith, T, ℤ, pos, negsuc}
+use Rattle.kit.proofs.{leZ, ltZ, _≤ℤ_, _<ℤ_, ltb-true, ltb-false, leb-true, leb-false, le-leb, lt-leb, lt-ltb, le-ltb}
 
 abbrev pub up : ℤ → ℕ
 up (pos n) = n

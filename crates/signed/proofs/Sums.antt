@@ -1,11 +1,6 @@
 -- Sums, differences and negations of signed numbers, in their parts. Assumes nothing.
-use mathlib.Core.Path.{_≡_, refl}
-use mathlib.Core.Bool.{Bool, true, false}
-use Prim.Native.Nat.{ℕ, zero, suc, _+_}
-use native.Mathlib.Omega.{arith}
-use lib.Dec.{ltb}
-use lib.IntN.{ℤ, pos, negsuc, negℤ, subℕ, _+ℤ_, _-ℤ_}
-use borrow.Author.Tests.{ltb-true, ltb-false}
+use Rattle.kit.proofs.{_≡_, refl, Bool, true, false, ℕ, zero, suc, _+_, arith, ltb, ℤ, pos, negsuc, negℤ, subℕ, _+ℤ_}
+use Rattle.kit.proofs.{_-ℤ_, ltb-true, ltb-false}
 use Rattle.signed.proofs.Parts.{up, dn, ≡-parts, parts-≡}
 
 subℕ-parts : (a b : ℕ) → up (subℕ a b) + b ≡ a + dn (subℕ a b)

@@ -1,11 +1,6 @@
 -- A number of 32 bits is the same in 64. Assumes nothing.
-use mathlib.Core.Path.{_≡_, _∙_}
-use lib.IntN.{ℤ}
-use mir.Syntax.{w32, w64}
-use mir.Val.{SFits, toZ, ofZ}
-use mir.Facts.{toZ-ofZ}
-use Rattle.signed.proofs.Widths.{back, sfits-parts}
-use Rattle.signed.proofs.Rules.{signed}
+use Rattle.kit.proofs.{_≡_, _∙_, ℤ, w32, w64, SFits, toZ, ofZ, toZ-ofZ}
+use Rattle.signed.proofs.{Widths.back, Widths.sfits-parts, Rules.signed}
 
 pub wider : (x : ℤ) → SFits w32 x → SFits w64 (toZ w32 (ofZ w32 x))
 wider x h = omega (signed, back h, sfits-parts h)

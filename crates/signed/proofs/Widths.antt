@@ -1,16 +1,8 @@
 -- What fits a signed machine integer, and what the machine reads back from its bits. Assumes nothing.
-use mathlib.Core.Path.{_≡_, sym, ap, _∙_}
-use mathlib.Core.Bool.{Bool}
-use Prim.Native.Nat.{suc, _+_, _-_, _≤_, _<_, _^_}
-use native.Mathlib.Omega.{arith}
-use lib.Dec.{T}
-use lib.IntN.{ℤ, pos, negsuc, natAbs, _+ℤ_, _-ℤ_}
-use lib.Signed.{mag, nonNeg}
-use mir.Syntax.{Width, w32}
-use mir.Val.{Fits, SFits, toZ, ofZ, bits, hbits}
-use mir.Facts.{toZ-ofZ}
+use Rattle.kit.proofs.{_≡_, sym, ap, _∙_, Bool, suc, _+_, _-_, _≤_, _<_, _^_, arith, T, ℤ, pos, negsuc, natAbs, _+ℤ_}
+use Rattle.kit.proofs.{_-ℤ_, mag, nonNeg, Width, w32, Fits, SFits, toZ, ofZ, bits, hbits, toZ-ofZ}
+use Rattle.signed.proofs.{Sums.add-parts, Sums.sub-parts}
 use Rattle.signed.proofs.Parts.{up, dn, ≡-parts}
-use Rattle.signed.proofs.Sums.{add-parts, sub-parts}
 
 pub parts-sfits : {w : Width} {z : ℤ} → (up z - dn z) + (dn z - suc (up z)) < 2 ^ hbits w → SFits w z
 parts-sfits {w} {z = pos n} h = record { sfits = omega arith }

@@ -1,17 +1,8 @@
 -- A table is lent whole exactly if checks 1 and 3 pass for it; what these two checks say. Assumes nothing.
-use mathlib.Core.Path.{_≡_}
-use mathlib.Core.Bool.{true, false}
-use mathlib.Core.List.{List}
-use Prim.Native.Nat.{ℕ}
-use lib.IntN.{ℤ}
-use Rattle.words.specs.declared.Refusal.the-variants.{BadHours, ShortBuffer}
-use Rattle.words.specs.declared.Taking.{Taking}
-use Rattle.om3.specs.Series.{badHours}
-use Rattle.om3.specs.Table.{Table, lent}
-use Rattle.om3.specs.Checks.{passes, inOrder, answerBy}
-use Rattle.om3.specs.Refusals.{tableShort}
-use Rattle.om3.proofs.Examined.{first-absent}
-use Rattle.om3.proofs.Taken.{taken-passes}
+use Rattle.kit.proofs.{_≡_, true, false, List, ℕ, ℤ}
+use Rattle.words.specs.declared.{Refusal.the-variants.BadHours, Refusal.the-variants.ShortBuffer, Taking.Taking}
+use Rattle.om3.specs.Document.{badHours, Table, lent, passes, inOrder, answerBy, tableShort}
+use Rattle.om3.proofs.{Examined.first-absent, Taken.taken-passes}
 use Rattle.om3.proofs.Lent.{not-short, coefficients-there, codes-there}
 use Rattle.sizes.specs.Lent.{lentCheck, TableLent}
 

@@ -1,13 +1,8 @@
 -- Doubling from 2 on reaches P before it passes it; doubling counted times reaches the power. Assumes nothing.
-use mathlib.Core.Path.{_≡_, refl, ap, _∙_}
-use mathlib.Core.Logic.{⊎-elim}
-use Prim.Native.Nat.{ℕ, suc, _+_, _*_, _^_, _≤_, _<_}
-use native.Mathlib.Nat.{two-pow-succ, eq-or-lt-of-le, le-antisymm}
-use native.Mathlib.Numerals.{add-one}
-use native.Mathlib.Omega.{arith}
-use lib.Pow.{pow-mono}
-use Rattle.words.specs.Constants.{largestLevel, largestHours}
-use Rattle.om3.specs.Series.{levels, P}
+use Rattle.kit.proofs.{_≡_, refl, ap, _∙_, ⊎-elim, ℕ, suc, _+_, _*_, _^_, _≤_, _<_, two-pow-succ, eq-or-lt-of-le}
+use Rattle.kit.proofs.{le-antisymm, add-one, arith, pow-mono}
+use Rattle.words.specs.{largestLevel, largestHours}
+use Rattle.om3.specs.Document.{levels, P}
 use Rattle.om3.proofs.Levels.{levels-some, levels-least, n≤P}
 
 -- p is a power of two from 2 up to P.

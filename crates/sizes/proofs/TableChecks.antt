@@ -1,17 +1,10 @@
 -- Checks 1, 3 and 4 of a table that becomes something else, in a buffer of which so much is lent and so much needed,
 -- one after the other: those of turning back and of writing a record. Assumes nothing.
-use mathlib.Core.Path.{_≡_}
-use mathlib.Core.Bool.{true, false, _||_}
-use mathlib.Core.List.{List, [], _∷_}
-use Prim.Native.Nat.{ℕ, _≤_, _<_}
-use lib.IntN.{ℤ}
-use borrow.Author.Tests.{lt-ltb, le-ltb, ltb-false}
+use Rattle.kit.proofs.{_≡_, true, false, _||_, List, [], _∷_, ℕ, _≤_, _<_, ℤ, lt-ltb, le-ltb, ltb-false}
 use Rattle.words.specs.declared.Refusal.the-variants.{BadHours, ShortBuffer}
-use Rattle.om3.specs.Series.{badHours}
-use Rattle.om3.specs.Table.{Table, lent}
-use Rattle.om3.specs.Checks.{Check, passes, refuses, inOrder}
-use Rattle.om3.specs.Refusals.{checkHours, short, tableShort, checkRoom, examineTable}
-use Rattle.om3.proofs.Tests.{neither}
+use Rattle.om3.specs.Document.{badHours, Table, lent, Check, passes, refuses, inOrder, checkHours, short, tableShort}
+use Rattle.om3.specs.Document.{checkRoom, examineTable}
+use Rattle.om3.proofs.{Tests.neither}
 use Rattle.om3.proofs.Examined.{then-passes, order-parts, first-absent}
 use Rattle.sizes.specs.Lent.{Enough}
 use Rattle.sizes.proofs.Lent.{table-lent, table-room}

@@ -1,22 +1,16 @@
 -- What is proved beside the demands: making after turning back, reading after writing and writing after reading, single
 -- coefficients, what the boundary tells, the columns of a window, the day change, how the looks through parts make up
 -- the whole, and what the printer prints. Assumes nothing.
-use mathlib.Core.{Path._≡_, Bool.false, List.List, List.map, List.flatten, List.flatMap}
-use Prim.Native.Nat.{ℕ, _-_, _*_, _/_, _^_, _≤_, _<_}
-use lib.{IntN.ℤ, IntN.pos, ListN.length, ListN.getD, ListN.take}
+use Rattle.kit.proofs.{_≡_, false, List, map, flatten, flatMap, ℕ, _-_, _*_, _/_, _^_, _≤_, _<_, ℤ, pos, length, getD}
+use Rattle.kit.proofs.{take}
 use denote.Ref.{RefT, now}
-use Rattle.words.specs.Constants.{dayHours}
-use Rattle.words.specs.declared.{Taking.Taking, Writing.Writing, Unpacking.Unpacking, Asking.Asking}
-use Rattle.words.specs.declared.{Finished.Finished, HourLine.HourLine, Refusal.Refusal}
-use Rattle.om3.specs.{Lists.upFrom, Series.Series, Series.levels, Series.P, Series.hoursFrom}
-use Rattle.om3.specs.{Table.Table, Table.tableOf, Table.HasTable, Table.lent}
-use Rattle.om3.specs.{Refusals.tableShort, Calls.filled, Checks.passes, Checks.refuses, Checks.inOrder}
-use Rattle.om3.specs.Bytes.{Bytes}
-use Rattle.om3.specs.Record.{coefficientIn}
-use Rattle.om3.specs.RecordCalls.{openingChecks, askingView, asking}
-use Rattle.om3.specs.Days.{day, changeOf, dayChange}
-use Rattle.om3.specs.{Columns.column, Columns.columnHours, Finished.finished, Joined.joined, Looked.lookThrough}
-use Rattle.om3.specs.{Finished.count, Printed.gramsOf, Printed.printingChecks}
+use Rattle.words.specs.{dayHours}
+use Rattle.words.specs.declared.{Taking.Taking, Writing.Writing, Unpacking.Unpacking, Asking.Asking, Finished.Finished}
+use Rattle.words.specs.declared.{HourLine.HourLine, Refusal.Refusal}
+use Rattle.om3.specs.Document.{upFrom, Series, levels, P, hoursFrom, Table, tableOf, HasTable, lent, tableShort, filled}
+use Rattle.om3.specs.Document.{passes, refuses, inOrder, Bytes, coefficientIn, openingChecks, askingView, asking, day}
+use Rattle.om3.specs.Document.{changeOf, dayChange, column, columnHours, finished, joined, lookThrough, count, gramsOf}
+use Rattle.om3.specs.Document.{printingChecks}
 use Rattle.om3.proofs as om3
 use Rattle.making.specs.Making.{Made}
 use Rattle.turning.specs.Turning.{TurnedBack}

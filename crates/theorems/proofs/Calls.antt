@@ -1,32 +1,16 @@
 -- Demand 2 for the calls: what their contracts say of a table that is turned back, and of going there and back. Assumes
 -- nothing.
-use mathlib.Core.Path.{_≡_, sym, ap, _∙_}
-use mathlib.Core.Bool.{true, false}
-use mathlib.Core.List.{List}
-use mathlib.Core.Logic.{_↔_}
-use Prim.Native.Nat.{ℕ, _/_, _≤_}
-use lib.IntN.{ℤ}
-use lib.ListN.{length, getD, take}
-use lib.Seq.{getD-take}
-use borrow.Author.Tests.{le-ltb}
-use Rattle.words.specs.Constants.{largestHours, gap}
+use Rattle.kit.proofs.{_≡_, sym, ap, _∙_, true, false, List, _↔_, ℕ, _/_, _≤_, ℤ, length, getD, take, getD-take, le-ltb}
+use Rattle.words.specs.{largestHours, gap}
 use Rattle.words.specs.declared.Taking.{Taking}
-use Rattle.om3.specs.Series.{Holds, Series, levels, P}
-use Rattle.om3.specs.Table.{Table, coefficient, codeOfPlace, tableOf, HasTable, lent}
-use Rattle.om3.specs.Down.{turnedBack}
-use Rattle.om3.specs.Checks.{passes, inOrder}
-use Rattle.om3.specs.Sound.{soundTable}
-use Rattle.om3.specs.Refusals.{tableShort}
-use Rattle.om3.specs.Calls.{makingChecks, turningBackChecks, filled}
+use Rattle.om3.specs.Document.{Holds, Series, levels, P, Table, coefficient, codeOfPlace, tableOf, HasTable, lent}
+use Rattle.om3.specs.Document.{turnedBack, passes, inOrder, soundTable, tableShort, makingChecks, turningBackChecks}
+use Rattle.om3.specs.Document.{filled}
 use Rattle.sizes.specs.Lent.{TableLent, Enough}
-use Rattle.om3.proofs.Filled.{filled-first, filled-room}
-use Rattle.om3.proofs.Lists.{map-up-length, take-room}
-use Rattle.om3.proofs.Examined.{examine-sound}
-use Rattle.sizes.proofs.Lent.{table-room}
-use Rattle.sizes.proofs.TableChecks.{decided, passed}
-use Rattle.om3.proofs.TurnedBack.{turned-length}
+use Rattle.om3.proofs.{Filled.filled-first, Filled.filled-room, Lists.map-up-length, Lists.take-room}
+use Rattle.om3.proofs.{Examined.examine-sound, TurnedBack.turned-length, Making.good-some, Making.making-series}
+use Rattle.sizes.proofs.{Lent.table-room, TableChecks.decided, TableChecks.passed}
 use Rattle.om3.proofs.Demand2 as demand2
-use Rattle.om3.proofs.Making.{good-some, making-series}
 use Rattle.om3.proofs.Taken.{taken-passes, good-hours, making-decided, readings-pass, table-first}
 use Rattle.making.specs.Making.{Made}
 use Rattle.turning.specs.Turning.{TurnedBack}

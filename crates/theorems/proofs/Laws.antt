@@ -1,33 +1,15 @@
 -- What is proved of the definitions by themselves: what P is, how nodes are numbered, which nodes are examined and
 -- what the examination of a table says, how three bytes hold a number and a record a table, what a column without an
 -- hour has, and what a look through hours gives. Assumes nothing.
-use mathlib.Core.Path.{_≡_}
-use mathlib.Core.Bool.{Bool, true, false}
-use mathlib.Core.List.{List, [], _∷_, _++_, map, foldr}
-use mathlib.Core.Logic.{_↔_}
-use Prim.Native.Nat.{ℕ, _+_, _*_, _/_, _^_, _≤_, _<_}
-use lib.IntN.{ℤ}
-use lib.ListN.{length, take}
-use Rattle.words.specs.Constants.{largestHours}
-use Rattle.words.specs.declared.Timestamp.{Timestamp}
-use Rattle.words.specs.declared.Range.{Range}
-use Rattle.words.specs.declared.Answer.{Answer}
-use Rattle.words.specs.declared.Column.{Column}
-use Rattle.om3.specs.Lists.{every}
-use Rattle.om3.specs.Series.{Series, levels, P}
-use Rattle.om3.specs.Nodes.{Node, InTree, number, left, right, hours, nodeOf}
-use Rattle.om3.specs.Table.{Table, tableOf, HasTable}
-use Rattle.om3.specs.Down.{turnedBack}
-use Rattle.om3.specs.Checks.{passes, inOrder}
-use Rattle.om3.specs.Sound.{tableNodes, soundTable}
-use Rattle.om3.specs.Refusals.{tableShort, examineTable}
-use Rattle.om3.specs.Bytes.{Bytes, InThree, threeBytes, signedFrom}
-use Rattle.om3.specs.Record.{recordSize, recordOf, hoursIn, tableIn}
-use Rattle.om3.specs.RecordCalls.{openingChecks, Openable, askingView, asking}
-use Rattle.om3.specs.Stopped.{countAt, outer, innerNodes, inner}
-use Rattle.om3.specs.Finished.{insideNodes, answer, count}
-use Rattle.om3.specs.Joined.{joined}
-use Rattle.om3.specs.Looked.{lookThrough}
+use Rattle.kit.proofs.{_≡_, Bool, true, false, List, [], _∷_, _++_, map, foldr, _↔_, ℕ, _+_, _*_, _/_, _^_, _≤_, _<_, ℤ}
+use Rattle.kit.proofs.{length, take}
+use Rattle.words.specs.{largestHours}
+use Rattle.words.specs.declared.{Timestamp.Timestamp, Range.Range, Answer.Answer, Column.Column}
+use Rattle.om3.specs.Document.{every, Series, levels, P, Node, InTree, number, left, right, hours, nodeOf, Table}
+use Rattle.om3.specs.Document.{tableOf, HasTable, turnedBack, passes, inOrder, tableNodes, soundTable, tableShort}
+use Rattle.om3.specs.Document.{examineTable, Bytes, InThree, threeBytes, signedFrom, recordSize, recordOf, hoursIn}
+use Rattle.om3.specs.Document.{tableIn, openingChecks, Openable, askingView, asking, countAt, outer, innerNodes, inner}
+use Rattle.om3.specs.Document.{insideNodes, answer, count, joined, lookThrough}
 use Rattle.om3.proofs as om3
 
 -- P is at least n, for up to 16,384 hours, at least 2, and the smallest such power of two.

@@ -1,5 +1,6 @@
 -- The contract of each call allows one result. Assumes nothing.
 use mathlib.Core.Path.{_≡_, refl, sym, ap, _∙_}
+use Rattle.sagivelume.specs.Boundary.{Tells}
 use Rattle.theorems.specs.Once.{OneAnswer, ProvedByHand, EachTold, EachCall}
 
 -- An equation allows one answer.
@@ -10,6 +11,11 @@ by-equation a b = a ∙ sym b
 equation : {K : Type 0} {A R E : K → Type 0} (x : (κs : K) → A κs → R κs)
     → OneAnswer (λ (κs : K) (a : A κs). Unit {0}) (λ (κs : K) (a : A κs) (r : R κs) (e : E κs). r ≡ x κs a)
 equation x = record { asks-nothing = λ κs a. tt; one = λ κs a r r′ e e′ p q. by-equation p q }
+
+-- What tells an answer that can only be x tells x.
+tells-one : {A T : Type 0} {promised : A → Type 0} {told : A → T} {r : T} {x : A} (t : Tells promised told r)
+    → t .answer ≡ x → r ≡ told x
+tells-one {told = told} t e = t .tells ∙ ap told e
 
 by-hand : ProvedByHand
 by-hand =
@@ -26,32 +32,32 @@ each-told =
       make = record {
         asks-nothing = λ κs a. tt;
         one = λ κs a r r′ e e′ x y. (
-          by-equation (x .answer) (y .answer),
-          by-equation (x .made .coefficients) (y .made .coefficients),
-          by-equation (x .made .codes) (y .made .codes),
+          by-equation (tells-one x (x .keeps .answer)) (tells-one y (y .keeps .answer)),
+          by-equation (x .keeps .coefficients) (y .keeps .coefficients),
+          by-equation (x .keeps .codes) (y .keeps .codes),
         );
       };
       turn-back = record {
         asks-nothing = λ κs a. tt;
         one = λ κs a r r′ e e′ x y. (
-          by-equation (x .answer) (y .answer),
-          by-equation (x .turned .hours) (y .turned .hours),
+          by-equation (tells-one x (x .keeps .answer)) (tells-one y (y .keeps .answer)),
+          by-equation (x .keeps .hours) (y .keeps .hours),
         );
       };
       level = equation _;
       write-record = record {
         asks-nothing = λ κs a. tt;
         one = λ κs a r r′ e e′ x y. (
-          by-equation (x .answer) (y .answer),
-          by-equation (x .written .bytes) (y .written .bytes),
+          by-equation (tells-one x (x .keeps .answer)) (tells-one y (y .keeps .answer)),
+          by-equation (x .keeps .bytes) (y .keeps .bytes),
         );
       };
       read-record = record {
         asks-nothing = λ κs a. tt;
         one = λ κs a r r′ e e′ x y. (
-          by-equation (x .answer) (y .answer),
-          by-equation (x .read .coefficients) (y .read .coefficients),
-          by-equation (x .read .codes) (y .read .codes),
+          by-equation (tells-one x (x .keeps .answer)) (tells-one y (y .keeps .answer)),
+          by-equation (x .keeps .coefficients) (y .keeps .coefficients),
+          by-equation (x .keeps .codes) (y .keeps .codes),
         );
       };
       open-record = equation _;

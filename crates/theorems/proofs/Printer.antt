@@ -1,12 +1,7 @@
 -- The printer's calls, by their contracts, print what document 01 prints for all pieces together. Assumes nothing.
-use mathlib.Core.Path.{_≡_, ap, _∙_}
-use mathlib.Core.List.{List, [], _∷_, _++_, foldl, flatten}
-use Prim.Native.Nat.{ℕ, _+_, _-_, _^_, _≤_, _<_}
-use native.Mathlib.Omega.{arith}
-use lib.ListN.{length, drop}
-use lib.Seq.{sets, sets-eq}
-use Rattle.om3.specs.Calls.{filled}
-use Rattle.om3.specs.Printed.{printed}
+use Rattle.kit.proofs.{_≡_, ap, _∙_, List, [], _∷_, _++_, foldl, flatten, ℕ, _+_, _-_, _^_, _≤_, _<_, arith, length}
+use Rattle.kit.proofs.{drop, sets, sets-eq}
+use Rattle.om3.specs.Document.{filled, printed}
 use Rattle.parsing.specs.Parsing.{Progress, progress, begun, readOn, closed}
 use Rattle.printing.specs.Printing.{printedAfter}
 use Rattle.printing.proofs.Whole.{printed-in-pieces}

@@ -1,38 +1,21 @@
 -- Demand 2 for the calls of the record: what their contracts say of a record that is read, of one that was written, and
 -- of single coefficients. Assumes nothing.
-use mathlib.Core.Path.{_≡_, refl, sym, ap, _∙_}
-use mathlib.Core.Bool.{false}
-use mathlib.Core.List.{List, [], _∷_}
-use mathlib.Core.Logic.{_↔_}
-use Prim.Native.Nat.{ℕ, _+_, _*_, _/_, _≤_, _<_}
-use native.Mathlib.Omega.{arith}
-use lib.IntN.{ℤ, pos}
-use lib.ListN.{length, getD, take, List·getD-append}
-use borrow.Author.Tests.{lt-leb, le-ltb}
-use Rattle.words.specs.declared.Refusal.the-variants.{ShortBuffer}
-use Rattle.words.specs.declared.Writing.{Writing}
-use Rattle.words.specs.declared.Unpacking.{Unpacking}
-use Rattle.words.specs.declared.Opening.{Opening}
-use Rattle.words.specs.declared.Asking.{Asking}
-use Rattle.om3.specs.Series.{Series, levels, P}
-use Rattle.om3.specs.Table.{Table, tableOf, HasTable, lent}
-use Rattle.om3.specs.Checks.{Check, passes, refuses, andThen, inOrder, answerBy}
-use Rattle.om3.specs.Refusals.{tableShort, checkRoom, examineTable}
-use Rattle.om3.specs.Calls.{filled}
-use Rattle.om3.specs.Bytes.{Bytes}
-use Rattle.om3.specs.Record.{recordSize, recordOf, HasRecord, headerSize, hoursIn, tableIn}
-use Rattle.om3.specs.RecordCalls.{writingChecks, openingChecks, unpackingChecks, opening, askingView, asking}
+use Rattle.kit.proofs.{_≡_, refl, sym, ap, _∙_, false, List, [], _∷_, _↔_, ℕ, _+_, _*_, _/_, _≤_, _<_, arith, ℤ, pos}
+use Rattle.kit.proofs.{length, getD, take, List·getD-append, lt-leb, le-ltb}
+use Rattle.words.specs.declared.{Refusal.the-variants.ShortBuffer, Writing.Writing, Unpacking.Unpacking}
+use Rattle.words.specs.declared.{Opening.Opening, Asking.Asking}
+use Rattle.om3.specs.Document.{Series, levels, P, Table, tableOf, HasTable, lent, Check, passes, refuses, andThen}
+use Rattle.om3.specs.Document.{inOrder, answerBy, tableShort, checkRoom, examineTable, filled, Bytes, recordSize}
+use Rattle.om3.specs.Document.{recordOf, HasRecord, headerSize, hoursIn, tableIn, writingChecks, openingChecks}
+use Rattle.om3.specs.Document.{unpackingChecks, opening, askingView, asking}
 use Rattle.sizes.specs.Lent.{Enough}
-use Rattle.om3.proofs.Making.{good-some}
-use Rattle.om3.proofs.Examined.{then-first, then-second, first-absent, examine-sound}
-use Rattle.om3.proofs.Lent.{coefficients-there, codes-there}
-use Rattle.sizes.proofs.Lent.{table-room}
-use Rattle.sizes.proofs.TableChecks.{decided, passed}
-use Rattle.om3.proofs.Filled.{filled-first, filled-room}
-use Rattle.om3.proofs.Records.{record-size}
-use Rattle.om3.proofs.RecordsOpened.{opens-formed, asked-unpacked}
-use Rattle.om3.proofs.RecordsTaken.{unpacking-parted, opened-room, table-record, made-read}
+use Rattle.om3.proofs.{Making.good-some, Lent.coefficients-there, Lent.codes-there, Filled.filled-first}
+use Rattle.om3.proofs.{Filled.filled-room, Records.record-size, RecordsOpened.opens-formed}
+use Rattle.om3.proofs.{RecordsOpened.asked-unpacked}
 use Rattle.om3.proofs.RecordsTaken.{reading-exactly, record-hours, record-table}
+use Rattle.om3.proofs.Examined.{then-first, then-second, first-absent, examine-sound}
+use Rattle.sizes.proofs.{Lent.table-room, TableChecks.decided, TableChecks.passed}
+use Rattle.om3.proofs.RecordsTaken.{unpacking-parted, opened-room, table-record, made-read}
 use Rattle.om3.proofs.Demand2 as demand2
 use Rattle.opening.proofs.Asked.{opened-asked}
 use Rattle.writing.specs.Writing.{RecordWritten}

@@ -1,15 +1,11 @@
 -- The three demands over the definitions of om3/specs, which transcribe document 01. Demand 1 lists its calls in Once
 -- and Unwritten, demand 3 its ranges in om3's Drawn. What else is proved: Besides, Laws, Figures. Assumes nothing.
-use mathlib.Core.{Path._≡_, Bool.false, List.List, Logic._↔_}
-use Prim.Native.Nat.{ℕ, _≤_}
-use lib.{IntN.ℤ, ListN.length, ListN.take}
-use Rattle.words.specs.declared.{Refusal.Refusal, Taking.Taking, Unpacking.Unpacking}
-use Rattle.words.specs.declared.{Finished.Finished, Stopped.Stopped}
-use Rattle.om3.specs.{Series.Series, Series.levels, Table.Table, Table.tableOf, Table.HasTable, Table.lent}
-use Rattle.om3.specs.{Checks.Check, Checks.refuses, Checks.inOrder, Checks.FirstCause, Calls.filled}
-use Rattle.om3.specs.{Refusals.tableShort, Bytes.Bytes, Record.HasRecord, Record.hoursIn}
-use Rattle.om3.specs.{Columns.column, Columns.columnHours, Finished.finished, Stopped.stopped, Looked.lookThrough}
-use Rattle.om3.specs.{Stopped.outer, Stopped.inner, Stopped.countAt, Finished.count, Drawn.Drawn, Drawn.Ranged}
+use Rattle.kit.proofs.{_≡_, false, List, _↔_, ℕ, _≤_, ℤ, length, take}
+use Rattle.words.specs.declared.{Refusal.Refusal, Taking.Taking, Unpacking.Unpacking, Finished.Finished}
+use Rattle.words.specs.declared.{Stopped.Stopped}
+use Rattle.om3.specs.Document.{Series, levels, Table, tableOf, HasTable, lent, Check, refuses, inOrder, FirstCause}
+use Rattle.om3.specs.Document.{filled, tableShort, Bytes, HasRecord, hoursIn, column, columnHours, finished, stopped}
+use Rattle.om3.specs.Document.{lookThrough, outer, inner, countAt, count, Drawn, Ranged}
 use Rattle.om3.proofs as om3
 use Rattle.sizes.specs.Lent.{Enough}
 use Rattle.making.specs.Making.{Made}

@@ -1,23 +1,12 @@
 -- Where a call is refused, each buffer lent to it is as it was, since what it leaves there is decided by the same
 -- checks as its answer. Assumes nothing.
-use mathlib.Core.Path.{_≡_, refl, ap, _∙_}
-use Prim.Native.Nat.{ℕ}
-use native.Mathlib.Omega.{arith}
-use lib.ListN.{length}
-use Rattle.words.specs.declared.Refusal.{Refusal}
-use Rattle.words.specs.declared.Taking.{Taking}
-use Rattle.words.specs.declared.Writing.{Writing}
-use Rattle.words.specs.declared.Unpacking.{Unpacking}
-use Rattle.om3.specs.Table.{lent}
-use Rattle.om3.specs.Checks.{Check, passes, refuses, inOrder, answerBy}
-use Rattle.om3.specs.Calls.{makingChecks, turningBackChecks}
-use Rattle.om3.specs.Record.{recordSize, hoursIn}
-use Rattle.om3.specs.RecordCalls.{writingChecks, unpackingChecks}
-use Rattle.told.specs.declared.tables.Told.{Told}
-use Rattle.told.specs.declared.records.ToldBytes.{ToldBytes}
-use Rattle.told.specs.declared.records.ToldHours.{ToldHours}
-use Rattle.told.specs.Tables.{takingTold}
-use Rattle.told.specs.Records.{writingTold, unpackingTold}
+use Rattle.kit.proofs.{_≡_, refl, ap, _∙_, ℕ, arith, length}
+use Rattle.words.specs.declared.{Refusal.Refusal, Taking.Taking, Writing.Writing, Unpacking.Unpacking}
+use Rattle.om3.specs.Document.{lent, Check, passes, refuses, inOrder, answerBy, makingChecks, turningBackChecks}
+use Rattle.om3.specs.Document.{recordSize, hoursIn, writingChecks, unpackingChecks}
+use Rattle.told.specs.declared.{tables.Told.Told, records.ToldBytes.ToldBytes, records.ToldHours.ToldHours}
+use Rattle.told.specs.{Tables.takingTold, Records.writingTold, Records.unpackingTold}
+use Rattle.sagivelume.specs.Boundary.{Tells}
 use Rattle.theorems.specs.Unwritten.{NothingWritten}
 
 -- A call with these checks, which answers a refusal, or `taken` where they pass.
@@ -32,9 +21,11 @@ module _ {A : Type 0} (refused : Refusal → A) (taken : A) (c : Check) where
 
   -- So it is if what is told of its answer has a number that is not that of a call that is taken, 0.
   told-refused : {T : Type 0} (told : A → T) (number : T → ℕ) → number (told taken) ≡ 0
-      → (r : T) → r ≡ told (answerBy refused c taken) → ¬ (number r ≡ 0) → (why : Refusal) × (c ≡ refuses why)
-  told-refused told number zero r e other =
-      was-refused (λ same. other (ap number e ∙ ap (λ (a : A). number (told a)) same ∙ zero))
+      → {promised : A → Type 0} (r : T) (t : Tells promised told r) → t .answer ≡ answerBy refused c taken
+      → ¬ (number r ≡ 0) → (why : Refusal) × (c ≡ refuses why)
+  told-refused told number zero r t e other =
+      was-refused
+      (λ same. other (ap number (t .tells) ∙ ap (λ (a : A). number (told a)) (e ∙ same) ∙ zero))
 
 -- A refusal that is answered is not the answer of a call that is taken.
 taking-refused : (c : Check) (why : Refusal) → Taking.Refused why ≡ answerBy Taking.Refused c Taking.Taken
@@ -72,21 +63,21 @@ nothing-written =
       make-told = λ n s cs cs′ ks ks′ r other m.
           let checks = inOrder (makingChecks n s (lent cs ks)) in
           let c = told-refused Taking.Refused Taking.Taken checks takingTold
-          (λ (u : Told). u .number) refl r (m .answer) other in
-          (rw (c .1) at (m .made .coefficients), rw (c .1) at (m .made .codes));
+          (λ (u : Told). u .number) refl r m (m .keeps .answer) other in
+          (rw (c .1) at (m .keeps .coefficients), rw (c .1) at (m .keeps .codes));
       turn-back-told = λ n cs ks out out′ r other m.
           let checks = inOrder (turningBackChecks n (lent cs ks) (length out)) in
           let c = told-refused Taking.Refused Taking.Taken checks takingTold
-          (λ (u : Told). u .number) refl r (m .answer) other in
-          rw (c .1) at (m .turned .hours);
+          (λ (u : Told). u .number) refl r m (m .keeps .answer) other in
+          rw (c .1) at (m .keeps .hours);
       write-record-told = λ n cs ks out out′ r other m.
           let checks = inOrder (writingChecks n (lent cs ks) (length out)) in
           let c = told-refused Writing.Refused (Writing.Bytes (recordSize n)) checks writingTold
-          (λ (u : ToldBytes). u .number) refl r (m .answer) other in
-          rw (c .1) at (m .written .bytes);
+          (λ (u : ToldBytes). u .number) refl r m (m .keeps .answer) other in
+          rw (c .1) at (m .keeps .bytes);
       read-record-told = λ bs cs cs′ ks ks′ r other m.
           let checks = inOrder (unpackingChecks bs (lent cs ks)) in
           let c = told-refused Unpacking.Refused (Unpacking.Hours (hoursIn bs)) checks unpackingTold
-          (λ (u : ToldHours). u .number) refl r (m .answer) other in
-          (rw (c .1) at (m .read .coefficients), rw (c .1) at (m .read .codes));
+          (λ (u : ToldHours). u .number) refl r m (m .keeps .answer) other in
+          (rw (c .1) at (m .keeps .coefficients), rw (c .1) at (m .keeps .codes));
     }

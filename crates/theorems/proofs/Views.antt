@@ -1,15 +1,9 @@
 -- What the contracts of the view's `open` and `ask` say together. Assumes nothing.
-use mathlib.Core.Path.{_≡_, sym, ap, _∙_}
-use mathlib.Core.List.{List}
-use Prim.Native.Nat.{ℕ, _<_}
+use Rattle.kit.proofs.{_≡_, sym, ap, _∙_, List, ℕ, _<_}
 use denote.Ref.{RefT, now}
-use Rattle.words.specs.declared.Refusal.{Refusal}
-use Rattle.words.specs.declared.Refusal.the-variants.{BadPlace}
-use Rattle.words.specs.declared.Asking.{Asking}
-use Rattle.om3.specs.Series.{P}
-use Rattle.om3.specs.Checks.{passes, refuses, inOrder}
-use Rattle.om3.specs.Record.{hoursIn, coefficientIn}
-use Rattle.om3.specs.RecordCalls.{openingChecks, opening, askingView, asking}
+use Rattle.words.specs.declared.{Refusal.Refusal, Refusal.the-variants.BadPlace, Asking.Asking}
+use Rattle.om3.specs.Document.{P, passes, refuses, inOrder, hoursIn, coefficientIn, openingChecks, opening, askingView}
+use Rattle.om3.specs.Document.{asking}
 use Rattle.view.specs.declared.View.{View}
 use Rattle.view.specs.View.{viewPlaces, viewOf}
 use Rattle.view.proofs.Viewed as viewed

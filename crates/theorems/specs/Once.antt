@@ -10,8 +10,7 @@
 --   OneResult same asked ensured    of which these are cases: `same` says what is the same of two results
 --   ProvedByHand                    what opening a view and asking it ask and promise
 --   EachTold, EachCall              each call of the boundary, and each call
-use mathlib.Core.Path.{_≡_}
-use mathlib.Core.List.{List}
+use mathlib.Core.{Path._≡_, List.List}
 use Prim.Native.Nat.{ℕ}
 use contract.Lifetimes.{Lfts}
 use contract.Monad.{fact}
@@ -20,7 +19,7 @@ use denote.Ref.{RefT, now}
 use denote.Triple.Clauses.{Clauses}
 use borrow.Fn.World.{World, ArgsD}
 use Rattle.words.specs.declared.Asking.{Asking}
-use Rattle.om3.specs.RecordCalls.{askingView}
+use Rattle.om3.specs.Document.{askingView}
 use Rattle.view.specs.declared.View.{View}
 use Rattle.view.specs.View.{viewOf}
 use Rattle.making.proofs.make.Reads as make

@@ -16,7 +16,8 @@ use Rattle.reading.specs.Reading.{RecordRead}
 use Rattle.told.specs.declared.tables.Told.{Told}
 use Rattle.told.specs.declared.records.ToldBytes.{ToldBytes}
 use Rattle.told.specs.declared.records.ToldHours.{ToldHours}
-use Rattle.sagivelume.specs.Boundary.{MakeTold, TurnBackTold, WriteTold, ReadTold}
+use Rattle.told.specs.{Tables.takingTold, Records.writingTold, Records.unpackingTold}
+use Rattle.sagivelume.specs.Boundary.{Tells}
 
 pub record NothingWritten : Type 0 where
   pub make : (n : ℕ) (s cs cs′ : List ℤ) (ks ks′ : List ℕ) (why : Refusal)
@@ -29,10 +30,10 @@ pub record NothingWritten : Type 0 where
       → RecordRead bs cs ks cs′ ks′ (Unpacking.Refused why) → (cs′ ≡ cs) × (ks′ ≡ ks)
   -- The boundary's calls.
   pub make-told : (n : ℕ) (s cs cs′ : List ℤ) (ks ks′ : List ℕ) (r : Told) → ¬ (r .number ≡ 0)
-      → MakeTold n s cs ks cs′ ks′ r → (cs′ ≡ cs) × (ks′ ≡ ks)
+      → Tells (Made n s cs ks cs′ ks′) takingTold r → (cs′ ≡ cs) × (ks′ ≡ ks)
   pub turn-back-told : (n : ℕ) (cs : List ℤ) (ks : List ℕ) (out out′ : List ℤ) (r : Told) → ¬ (r .number ≡ 0)
-      → TurnBackTold n cs ks out out′ r → out′ ≡ out
+      → Tells (TurnedBack n cs ks out out′) takingTold r → out′ ≡ out
   pub write-record-told : (n : ℕ) (cs : List ℤ) (ks out out′ : List ℕ) (r : ToldBytes) → ¬ (r .number ≡ 0)
-      → WriteTold n cs ks out out′ r → out′ ≡ out
+      → Tells (RecordWritten n cs ks out out′) writingTold r → out′ ≡ out
   pub read-record-told : (bs : List ℕ) (cs cs′ : List ℤ) (ks ks′ : List ℕ) (r : ToldHours) → ¬ (r .number ≡ 0)
-      → ReadTold bs cs ks cs′ ks′ r → (cs′ ≡ cs) × (ks′ ≡ ks)
+      → Tells (RecordRead bs cs ks cs′ ks′) unpackingTold r → (cs′ ≡ cs) × (ks′ ≡ ks)

@@ -1,23 +1,13 @@
 -- Each struct says what document 01 says of the answer that it tells: each case by computing it. Assumes nothing.
-use mathlib.Core.Path.{_≡_, refl}
-use mathlib.Core.List.{List}
-use lib.IntN.{ℤ}
-use Rattle.words.specs.Said.{numberOf, placeOf, refused, saidOfTaking, saidOfWriting, saidOfUnpacking, saidOfOpening}
-use Rattle.words.specs.Said.{saidOfAsking, saidOfEdges, saidOfStopped, saidOfFinished, saidOfDayChange, valuesOf}
-use Rattle.words.specs.declared.Refusal.{Refusal}
+use Rattle.kit.proofs.{_≡_, refl, List, ℤ}
+use Rattle.words.specs.{numberOf, placeOf, refused, saidOfTaking, saidOfWriting, saidOfUnpacking, saidOfOpening}
+use Rattle.words.specs.{saidOfAsking, saidOfEdges, saidOfStopped, saidOfFinished, saidOfDayChange, valuesOf}
+use Rattle.words.specs.declared.{Refusal.Refusal, Taking.Taking, Writing.Writing, Unpacking.Unpacking, Opening.Opening}
+use Rattle.words.specs.declared.{Asking.Asking, Edges.Edges, Stopped.Stopped, Answer.Answer, Finished.Finished}
+use Rattle.words.specs.declared.{DayChange.DayChange}
 use Rattle.words.specs.declared.Refusal.the-variants.{BadHours, BadReading, ShortBuffer, Unsound, BadWindow, BadColumn}
 use Rattle.words.specs.declared.Refusal.the-variants.{TooDeep, CutShort, BadVersion, BadLength, BytesAfter, BadLine}
 use Rattle.words.specs.declared.Refusal.the-variants.{BadPlace}
-use Rattle.words.specs.declared.Taking.{Taking}
-use Rattle.words.specs.declared.Writing.{Writing}
-use Rattle.words.specs.declared.Unpacking.{Unpacking}
-use Rattle.words.specs.declared.Opening.{Opening}
-use Rattle.words.specs.declared.Asking.{Asking}
-use Rattle.words.specs.declared.Edges.{Edges}
-use Rattle.words.specs.declared.Stopped.{Stopped}
-use Rattle.words.specs.declared.Answer.{Answer}
-use Rattle.words.specs.declared.Finished.{Finished}
-use Rattle.words.specs.declared.DayChange.{DayChange}
 use Rattle.told.specs.Tables.{takingTold}
 use Rattle.told.specs.Records.{writingTold, unpackingTold, openingTold, askingTold}
 use Rattle.told.specs.Columns.{edgesTold, stoppedTold, answerTold, finishedTold, changeTold}

@@ -5,34 +5,21 @@
 --   said number place vs     the values count where the number is 0
 --   toldSays, bytesSay, ..   what a struct of each type says; `valuesIn`, of the values of a column's answer
 --   EachSays                 each says what document 01 says of its answer
-use mathlib.Core.Path.{_≡_}
-use mathlib.Core.Bool.{cond}
+use mathlib.Core.{Path._≡_, Bool.cond}
 use mathlib.Core.List.{List, [], _∷_, _++_}
 use Prim.Native.Nat.{ℕ}
 use lib.Dec.{eqb}
 use lib.IntN.{ℤ, pos}
-use Rattle.words.specs.Said.{Said, saidOfTaking, saidOfWriting, saidOfUnpacking, saidOfOpening, saidOfAsking}
-use Rattle.words.specs.Said.{saidOfEdges, saidOfStopped, saidOfFinished, saidOfDayChange, valuesOf}
-use Rattle.words.specs.declared.Taking.{Taking}
-use Rattle.words.specs.declared.Writing.{Writing}
-use Rattle.words.specs.declared.Unpacking.{Unpacking}
-use Rattle.words.specs.declared.Opening.{Opening}
-use Rattle.words.specs.declared.Asking.{Asking}
-use Rattle.words.specs.declared.Edges.{Edges}
-use Rattle.words.specs.declared.Stopped.{Stopped}
-use Rattle.words.specs.declared.Answer.{Answer}
-use Rattle.words.specs.declared.Finished.{Finished}
-use Rattle.words.specs.declared.DayChange.{DayChange}
-use Rattle.told.specs.declared.tables.Told.{Told}
-use Rattle.told.specs.declared.records.ToldBytes.{ToldBytes}
-use Rattle.told.specs.declared.records.ToldHours.{ToldHours}
-use Rattle.told.specs.declared.records.ToldRecord.{ToldRecord}
-use Rattle.told.specs.declared.records.ToldCoefficient.{ToldCoefficient}
-use Rattle.told.specs.declared.columns.ToldColumn.{ToldColumn}
-use Rattle.told.specs.declared.columns.ToldRanges.{ToldRanges}
-use Rattle.told.specs.declared.columns.ToldAnswer.{ToldAnswer}
-use Rattle.told.specs.declared.columns.ToldFinished.{ToldFinished}
-use Rattle.told.specs.declared.columns.ToldChange.{ToldChange}
+use Rattle.words.specs.{saidOfTaking, saidOfWriting, saidOfUnpacking, saidOfOpening, saidOfAsking, saidOfEdges}
+use Rattle.words.specs.{saidOfStopped, saidOfFinished, saidOfDayChange, valuesOf}
+use Rattle.words.specs.Said.{Said}
+use Rattle.words.specs.declared.{Taking.Taking, Writing.Writing, Unpacking.Unpacking, Opening.Opening, Asking.Asking}
+use Rattle.words.specs.declared.{Edges.Edges, Stopped.Stopped, Answer.Answer, Finished.Finished, DayChange.DayChange}
+use Rattle.told.specs.declared.{tables.Told.Told, records.ToldBytes.ToldBytes, records.ToldHours.ToldHours}
+use Rattle.told.specs.declared.{records.ToldRecord.ToldRecord, records.ToldCoefficient.ToldCoefficient}
+use Rattle.told.specs.declared.{columns.ToldColumn.ToldColumn, columns.ToldRanges.ToldRanges}
+use Rattle.told.specs.declared.{columns.ToldAnswer.ToldAnswer, columns.ToldFinished.ToldFinished}
+use Rattle.told.specs.declared.{columns.ToldChange.ToldChange}
 use Rattle.told.specs.Tables.{takingTold}
 use Rattle.told.specs.Records.{writingTold, unpackingTold, openingTold, askingTold}
 use Rattle.told.specs.Columns.{edgesTold, stoppedTold, answerTold, finishedTold, changeTold}

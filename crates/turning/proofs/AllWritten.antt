@@ -1,28 +1,14 @@
 -- The hours written below node 1 are those that a table turns back to, as many as there is room for. Assumes
 -- nothing.
-use mathlib.Core.Path.{_≡_, refl, sym, ap, _∙_}
-use mathlib.Core.Bool.{Bool, true, false}
-use mathlib.Core.List.{List}
-use mathlib.Core.Logic.{⊎-elim}
-use Prim.Native.Nat.{ℕ, zero, suc, _+_, _-_, _/_, _^_, _≤_, _<_}
-use native.Mathlib.Nat.{two-pow-succ}
-use native.Mathlib.Omega.{arith}
-use lib.Dec.{eqb}
-use lib.IntN.{ℤ}
-use lib.Pow.{pow-pos}
-use lib.ListN.{length, getD, length-set}
-use lib.Seq.{getD-set-same, getD-set-other, ext-getD}
-use borrow.Author.Tests.{eqb-true, eqb-false}
-use Rattle.words.specs.Constants.{gap}
-use Rattle.words.specs.Said.{lowOf}
-use Rattle.om3.specs.Nodes.{Node, root, left, right, width}
-use Rattle.om3.specs.Table.{Table}
-use Rattle.om3.specs.Down.{reachedAt, reached, turnedBack}
+use Rattle.kit.proofs.{_≡_, refl, sym, ap, _∙_, Bool, true, false, List, ⊎-elim, ℕ, zero, suc, _+_, _-_, _/_, _^_, _≤_}
+use Rattle.kit.proofs.{_<_, two-pow-succ, arith, eqb, ℤ, pow-pos, length, getD, length-set, getD-set-same}
+use Rattle.kit.proofs.{getD-set-other, ext-getD, eqb-true, eqb-false}
+use Rattle.words.specs.{gap, lowOf}
+use Rattle.om3.specs.Document.{Node, root, left, right, width, Table, reachedAt, reached, turnedBack}
 use Rattle.node.specs.Located.{Located}
-use Rattle.om3.proofs.Tests.{below-or-not}
-use Rattle.om3.proofs.Nodes.{width-hour, start-hour}
+use Rattle.om3.proofs.{Tests.below-or-not, Nodes.width-hour, Nodes.start-hour, TurnedBack.turned-length}
+use Rattle.om3.proofs.{TurnedBack.turned-at}
 use Rattle.node.proofs.Located.{root-located, left-located, right-located}
-use Rattle.om3.proofs.TurnedBack.{turned-length, turned-at}
 use Rattle.turning.specs.Turning.{withHours}
 
 -- Writing below a node: the length stays, an hour once right stays right, and each hour below the node is written.

@@ -1,32 +1,13 @@
 -- Each answer of turning back: its checks in their order, and the hours of a sound table. Assumes nothing.
-use mathlib.Core.Path.{_≡_, sym, _∙_}
-use mathlib.Core.Bool.{true, false}
-use mathlib.Core.List.{List, _++_}
-use Prim.Native.Nat.{ℕ, _-_, _<_}
-use native.Mathlib.Omega.{arith}
-use lib.IntN.{ℤ, pos}
-use lib.ListN.{length, getD, take, drop}
-use lib.Seq.{length-take-le}
-use Rattle.words.specs.declared.NodeId.{NodeId}
-use Rattle.words.specs.declared.Range.{Range}
-use Rattle.words.specs.declared.Refusal.{Refusal}
+use Rattle.kit.proofs.{_≡_, sym, _∙_, true, false, List, _++_, ℕ, _-_, _<_, arith, ℤ, pos, length, getD, take, drop}
+use Rattle.kit.proofs.{length-take-le}
+use Rattle.words.specs.declared.{NodeId.NodeId, Range.Range, Refusal.Refusal, Taking.Taking}
 use Rattle.words.specs.declared.Refusal.the-variants as refusal
-use Rattle.words.specs.declared.Taking.{Taking}
-use Rattle.om3.specs.Lists.{every}
-use Rattle.om3.specs.Series.{badHours, levels, P}
-use Rattle.om3.specs.Nodes.{root}
-use Rattle.om3.specs.Table.{lent}
-use Rattle.om3.specs.Checks.{Check, passes, refuses, inOrder}
-use Rattle.om3.specs.Sound.{soundRootValues, nodesBelow, soundTable, soundNode}
-use Rattle.om3.specs.Refusals.{tableShort, examineTable}
-use Rattle.om3.specs.Calls.{turningBackChecks}
+use Rattle.om3.specs.Document.{every, badHours, levels, P, root, lent, Check, passes, refuses, inOrder, soundRootValues}
+use Rattle.om3.specs.Document.{nodesBelow, soundTable, soundNode, tableShort, examineTable, turningBackChecks}
 use Rattle.sizes.specs.Lent.{Enough}
-use Rattle.om3.proofs.Making.{good-some}
-use Rattle.om3.proofs.Tests.{and-right}
-use Rattle.om3.proofs.Levels.{n≤P}
+use Rattle.om3.proofs.{Making.good-some, Tests.and-right, Levels.n≤P, TurnedBack.turned-length, Examined.examine-sound}
 use Rattle.node.proofs.Located.{root-located}
-use Rattle.om3.proofs.TurnedBack.{turned-length}
-use Rattle.om3.proofs.Examined.{examine-sound}
 use Rattle.sizes.proofs.TableChecks as checked
 use Rattle.node.specs.declared.Root.{Root}
 use Rattle.node.specs.Steps.{rootOf}

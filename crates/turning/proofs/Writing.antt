@@ -1,27 +1,15 @@
 -- What writing the hours below a node promises, at a pair and at a node of two halves. Assumes nothing.
-use mathlib.Core.Path.{_≡_, sym, ap, _∙_}
-use mathlib.Core.Bool.{true}
-use mathlib.Core.List.{List}
-use Prim.Native.Nat.{ℕ, suc, _+_, _-_, _*_, _/_, _≤_, _<_}
-use native.Mathlib.Omega.{arith}
-use lib.IntN.{ℤ, pos}
-use lib.ListN.{getD, set}
-use Rattle.signed.proofs.Parts.{clash}
-use Rattle.words.specs.Said.{lowOf}
+use Rattle.kit.proofs.{_≡_, sym, ap, _∙_, true, List, ℕ, suc, _+_, _-_, _*_, _/_, _≤_, _<_, arith, ℤ, pos, getD, set}
+use Rattle.signed.proofs.{clash}
+use Rattle.words.specs.{lowOf}
 use Rattle.words.specs.declared.Range.{Range}
-use Rattle.om3.specs.Lists.{every}
-use Rattle.om3.specs.Nodes.{Node, left, right}
-use Rattle.om3.specs.Table.{Table, lent}
-use Rattle.om3.specs.Down.{leftHalf, rightHalf, firstOfPair, secondOfPair, reached}
-use Rattle.om3.specs.Sound.{soundDetails, soundCode, soundNode, nodesBelow}
-use Rattle.node.specs.Located.{Located}
-use Rattle.om3.proofs.Tests.{and-left, and-right}
-use Rattle.om3.proofs.Nodes.{pair-yes, pair-no}
+use Rattle.om3.specs.Document.{every, Node, left, right, Table, lent, leftHalf, rightHalf, firstOfPair, secondOfPair}
+use Rattle.om3.specs.Document.{reached, soundDetails, soundCode, soundNode, nodesBelow}
+use Rattle.node.specs.{Located.Located, Steps.halvesOf, Steps.pairOf}
+use Rattle.om3.proofs.{Tests.and-left, Tests.and-right, Nodes.pair-yes, Nodes.pair-no, Reached.reached-left}
+use Rattle.om3.proofs.{Reached.reached-right, NodeLists.every-append}
 use Rattle.node.proofs.Located.{one-more, above-pairs, at-pair, left-located, right-located}
-use Rattle.om3.proofs.Reached.{reached-left, reached-right}
-use Rattle.om3.proofs.NodeLists.{every-append}
 use Rattle.node.specs.declared.Halves.{Halves}
-use Rattle.node.specs.Steps.{halvesOf, pairOf}
 use Rattle.turning.specs.Turning.{withHours, Written, PairWritten}
 use Rattle.examining.proofs.Answers.{Stepped, stepped, not-stepped}
 use Rattle.examining.proofs.Examining.{one-level, first-index, code-index}

@@ -1,18 +1,8 @@
 -- What the view of a record holds, and what it answers. Assumes nothing.
-use mathlib.Core.Path.{_≡_, refl}
-use mathlib.Core.List.{List}
-use Prim.Native.Nat.{ℕ, _+_, _*_, _≤_, _<_}
-use native.Mathlib.Omega.{arith}
-use lib.ListN.{length}
-use borrow.Author.Tests.{lt-leb, le-ltb}
-use Rattle.words.specs.declared.Refusal.{Refusal}
-use Rattle.words.specs.declared.Refusal.the-variants.{BadPlace}
-use Rattle.words.specs.declared.Opening.{Opening}
-use Rattle.words.specs.declared.Asking.{Asking}
-use Rattle.om3.specs.Series.{P}
-use Rattle.om3.specs.Checks.{Check, passes, refuses, inOrder, answerBy}
-use Rattle.om3.specs.Record.{headerSize, hoursIn, coefficientIn}
-use Rattle.om3.specs.RecordCalls.{openingChecks, opening, askingView, asking}
+use Rattle.kit.proofs.{_≡_, refl, List, ℕ, _+_, _*_, _≤_, _<_, arith, length, lt-leb, le-ltb}
+use Rattle.words.specs.declared.{Refusal.Refusal, Refusal.the-variants.BadPlace, Opening.Opening, Asking.Asking}
+use Rattle.om3.specs.Document.{P, Check, passes, refuses, inOrder, answerBy, headerSize, hoursIn, coefficientIn}
+use Rattle.om3.specs.Document.{openingChecks, opening, askingView, asking}
 use Rattle.om3.proofs.RecordsOpened.{opens-formed}
 use Rattle.opening.proofs.Asked.{opened-asked, past-places}
 use Rattle.view.specs.View.{viewPlaces}

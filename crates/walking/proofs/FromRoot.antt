@@ -1,35 +1,20 @@
 -- The visit from the root values: node 0 is examined first, and a visit from node 1 is over the whole table. Assumes
 -- nothing.
-use mathlib.Core.Path.{_≡_, refl, _∙_}
-use mathlib.Core.List.{List}
-use Prim.Native.Nat.{ℕ, _-_}
-use native.Mathlib.Omega.{arith}
-use lib.IntN.{ℤ, pos}
-use lib.ListN.{getD}
-use Rattle.words.specs.declared.Column.{Column}
-use Rattle.words.specs.declared.Range.{Range}
-use Rattle.om3.specs.Series.{levels, P}
-use Rattle.om3.specs.Nodes.{root}
-use Rattle.om3.specs.Table.{Table, lent}
-use Rattle.om3.specs.Down.{rootRange}
-use Rattle.om3.specs.Checks.{inOrder}
-use Rattle.om3.specs.Sound.{soundRootValues, examine}
-use Rattle.om3.specs.Stopped.{outer, innerNodes}
+use Rattle.kit.proofs.{_≡_, refl, _∙_, List, ℕ, _-_, arith, ℤ, pos, getD}
+use Rattle.words.specs.declared.{Column.Column, Range.Range}
+use Rattle.om3.specs.Document.{levels, P, root, Table, lent, rootRange, inOrder, soundRootValues, examine, outer}
+use Rattle.om3.specs.Document.{innerNodes}
 use Rattle.sizes.specs.Lent.{TableLent}
-use Rattle.om3.proofs.Levels.{2≤P, P-even}
+use Rattle.om3.proofs.{Levels.2≤P, Levels.P-even, BelowOpened.visited-root}
 use Rattle.node.proofs.Located.{root-located}
-use Rattle.om3.proofs.BelowOpened.{visited-root}
 use Rattle.node.specs.declared.Root.{Root}
 use Rattle.node.specs.Steps.{rootOf}
 use Rattle.examining.proofs.Answers.{Rooted, rooted, not-rooted}
 use Rattle.examining.proofs.AtRoot.{root-readings, root-reached}
-use Rattle.walking.specs.Nodes.{At, Below}
-use Rattle.walking.specs.Seen.{seenOf, tableSeen}
-use Rattle.walking.specs.Visiting.{VisitedFrom, TableVisited}
-use Rattle.walking.specs.declared.Reached.{Reached}
-use Rattle.walking.specs.declared.Visited.{Visited}
-use Rattle.walking.proofs.SeenTogether.{seen-same}
-use Rattle.walking.proofs.Visiting.{not-through}
+use Rattle.walking.specs.{Nodes.At, Nodes.Below, Seen.seenOf, Seen.tableSeen, Visiting.VisitedFrom}
+use Rattle.walking.specs.{Visiting.TableVisited}
+use Rattle.walking.specs.declared.{Reached.Reached, Visited.Visited}
+use Rattle.walking.proofs.{SeenTogether.seen-same, Visiting.not-through}
 
 module _ (n : ℕ) (cs : List ℤ) (ks : List ℕ) (x : Column) (stop : ℕ) where
   abbrev l : ℕ

@@ -1,21 +1,12 @@
 -- What is lent for a node is lent for a step down and for its halves, and for the inner nodes of two visits together.
 -- Assumes nothing.
-use mathlib.Core.Bool.{Bool, true, false, cond}
-use mathlib.Core.List.{List}
-use Prim.Native.Nat.{ℕ, _+_, _/_, _≤_}
-use native.Mathlib.Nat.{mul-le-mul-left}
-use native.Mathlib.Omega.{arith}
-use lib.IntN.{ℤ}
-use lib.ListN.{length}
-use borrow.Author.Tests.{ltb-false}
+use Rattle.kit.proofs.{Bool, true, false, cond, List, ℕ, _+_, _/_, _≤_, mul-le-mul-left, arith, ℤ, length, ltb-false}
 use Rattle.words.specs.declared.Range.{Range}
-use Rattle.words.specs.Bounds.{Readings}
+use Rattle.words.specs.{Readings}
 use Rattle.node.proofs.Rooms.{left-room, right-room, places-room}
 use Rattle.walking.specs.Nodes.{Below, isPairOf, leftReached, rightReached}
-use Rattle.walking.specs.Seen.{bothInner}
-use Rattle.walking.specs.Visiting.{Steps, InnerBelow}
-use Rattle.walking.specs.declared.Reached.{Reached}
-use Rattle.walking.specs.declared.Inner.{Inner}
+use Rattle.walking.specs.{Seen.bothInner, Visiting.Steps, Visiting.InnerBelow}
+use Rattle.walking.specs.declared.{Reached.Reached, Inner.Inner}
 
 -- What is lent for a node of two hours or more is lent for a step down from it and for its halves.
 module _ (cs : List ℤ) (ks : List ℕ) (at : Reached) (below : Below cs ks at) (two : 2 ≤ at .hours) where

@@ -1,23 +1,13 @@
 -- The narrowing of a visit: a record of what holds wherever it has come to, and how it goes on from there. A visit from
 -- where it has come to is a visit from its start. Assumes nothing.
-use mathlib.Core.Path.{_≡_, refl}
-use mathlib.Core.Bool.{true, false, not}
-use mathlib.Core.List.{List}
-use Prim.Native.Nat.{ℕ, _+_, _*_, _≤_}
-use native.Mathlib.Omega.{arith}
-use lib.IntN.{ℤ}
-use lib.ListN.{length}
-use borrow.Author.Tests.{ltb-true}
-use Rattle.words.specs.declared.Column.{Column}
-use Rattle.words.specs.declared.Range.{Range}
-use Rattle.words.specs.Bounds.{Readings}
+use Rattle.kit.proofs.{_≡_, refl, true, false, not, List, ℕ, _+_, _*_, _≤_, arith, ℤ, length, ltb-true}
+use Rattle.words.specs.declared.{Column.Column, Range.Range}
+use Rattle.words.specs.{Readings}
 use Rattle.om3.proofs.Tests.{and-right}
 use Rattle.node.specs.declared.Halves.{Halves}
 use Rattle.walking.specs.Nodes.{Below, leftReached, rightReached, touchesOf, insideOf, openedOf}
-use Rattle.walking.specs.Visiting.{SteppedDown, VisitedFrom}
-use Rattle.walking.specs.Narrowing.{EndsAt, SplitsAt}
-use Rattle.walking.specs.declared.Reached.{Reached}
-use Rattle.walking.specs.declared.Visited.{Visited}
+use Rattle.walking.specs.{Visiting.SteppedDown, Visiting.VisitedFrom, Narrowing.EndsAt, Narrowing.SplitsAt}
+use Rattle.walking.specs.declared.{Reached.Reached, Visited.Visited}
 use Rattle.walking.proofs.Lending.{left-below, right-below}
 use Rattle.walking.proofs.Visiting as visiting
 

@@ -1,24 +1,12 @@
 -- What is seen in two lists of nodes, one after the other, and that nodes that do not touch the column add nothing.
 -- Assumes nothing.
-use mathlib.Core.Path.{_≡_, refl, sym, ap, _∙_}
-use mathlib.Core.Bool.{Bool, true, false, cond}
-use mathlib.Core.List.{List, [], _∷_, _++_, append-nil}
-use Prim.Native.Nat.{ℕ}
-use Rattle.words.specs.declared.Column.{Column}
-use Rattle.words.specs.declared.Range.{Range}
-use Rattle.words.specs.declared.Range.the-variants.{Empty}
-use Rattle.om3.specs.Lists.{lastOf}
-use Rattle.om3.specs.Nodes.{Node}
-use Rattle.om3.specs.Table.{Table}
-use Rattle.om3.specs.Down.{reached}
-use Rattle.om3.specs.Stopped.{rangeOver}
-use Rattle.om3.proofs.Ranges.{both-empty}
-use Rattle.om3.proofs.BelowOpened.{range-append}
+use Rattle.kit.proofs.{_≡_, refl, sym, ap, _∙_, Bool, true, false, cond, List, [], _∷_, _++_, append-nil, ℕ}
+use Rattle.words.specs.declared.{Column.Column, Range.Range, Range.the-variants.Empty}
+use Rattle.om3.specs.Document.{lastOf, Node, Table, reached, rangeOver}
+use Rattle.om3.proofs.{Ranges.both-empty, BelowOpened.range-append}
 use Rattle.walking.specs.Nodes.{reachedOf, At, touchesOf}
 use Rattle.walking.specs.Seen.{unopenedOf, bothInner, bothSeen, innerOver}
-use Rattle.walking.specs.declared.Reached.{Reached}
-use Rattle.walking.specs.declared.Inner.{Inner}
-use Rattle.walking.specs.declared.Seen.{Seen}
+use Rattle.walking.specs.declared.{Reached.Reached, Inner.Inner, Seen.Seen}
 
 -- Two things seen with the same parts are the same.
 pub seen-same : {o p : Range} {i j : Inner} {c d : ℕ} → o ≡ p → i ≡ j → c ≡ d

@@ -1,32 +1,18 @@
 -- One step down, at a pair and at a node of two halves: its answer is the node's halves if it is sound, and these are
 -- ranges of readings. Assumes nothing.
-use mathlib.Core.Path.{_≡_, sym, _∙_}
-use mathlib.Core.Bool.{Bool, _&&_}
-use mathlib.Core.List.{List}
-use Prim.Native.Nat.{ℕ, _+_, _*_, _/_, _≤_, _<_}
-use lib.IntN.{ℤ, pos}
-use lib.ListN.{getD}
-use Rattle.words.specs.declared.NodeId.{NodeId}
-use Rattle.words.specs.declared.Timestamp.{Timestamp}
-use Rattle.words.specs.declared.Range.{Range}
-use Rattle.words.specs.Bounds.{Readings}
-use Rattle.om3.specs.Series.{hour}
-use Rattle.om3.specs.Nodes.{Node}
-use Rattle.om3.specs.Table.{Table, lent}
-use Rattle.om3.specs.Down.{firstOfPair, secondOfPair}
-use Rattle.om3.specs.Sound.{soundCode, gapFrom}
-use Rattle.om3.proofs.Tests.{and-left}
-use Rattle.om3.proofs.Nodes.{pair-yes, pair-no}
+use Rattle.kit.proofs.{_≡_, sym, _∙_, Bool, _&&_, List, ℕ, _+_, _*_, _/_, _≤_, _<_, ℤ, pos, getD}
+use Rattle.words.specs.declared.{NodeId.NodeId, Timestamp.Timestamp, Range.Range}
+use Rattle.words.specs.{Readings}
+use Rattle.om3.specs.Document.{hour, Node, Table, lent, firstOfPair, secondOfPair, soundCode, gapFrom}
+use Rattle.om3.proofs.{Tests.and-left, Nodes.pair-yes, Nodes.pair-no, Reached.reached-left, Reached.reached-right}
+use Rattle.om3.proofs.{SoundCodes.coded}
 use Rattle.node.proofs.Located.{above-pairs, at-pair}
-use Rattle.om3.proofs.Reached.{reached-left, reached-right}
-use Rattle.om3.proofs.SoundCodes.{coded}
 use Rattle.node.specs.declared.Halves.{Halves}
 use Rattle.node.specs.Steps.{halvesOf}
 use Rattle.examining.specs.Examining.{pairAt}
 use Rattle.examining.proofs.Answers.{stepped}
 use Rattle.examining.proofs.Examining.{code-index, sound-pair, sound-node, left-readings, right-readings}
-use Rattle.walking.specs.Nodes.{At}
-use Rattle.walking.specs.Visiting.{halvesAt, SteppedDown}
+use Rattle.walking.specs.{Nodes.At, Visiting.halvesAt, Visiting.SteppedDown}
 use Rattle.walking.specs.declared.Reached.{Reached}
 
 module _ (n : ℕ) (cs : List ℤ) (ks : List ℕ) (i : NodeId) (h : Timestamp) (w : ℕ) (range : Range) where

@@ -1,19 +1,9 @@
 -- The tests that the code makes of a node are those of the definitions: it shares an hour with the column, lies wholly
 -- inside it, is opened. Assumes nothing.
-use mathlib.Core.Path.{_≡_, refl, sym, _∙_}
-use mathlib.Core.Bool.{Bool, true, false, not, _&&_, and-assoc}
-use mathlib.Core.Logic.{⊎-elim}
-use Prim.Native.Nat.{ℕ, _+_, _-_, _^_, _≤_, _<_}
-use native.Mathlib.Omega.{arith}
-use lib.Dec.{leb, ltb}
-use lib.Pow.{pow-mono, pow-lt}
-use borrow.Author.Tests.{leb-true, ltb-true, le-leb, lt-ltb, le-ltb}
-use Rattle.words.specs.declared.Column.{Column}
-use Rattle.words.specs.declared.Range.{Range}
-use Rattle.om3.specs.Nodes.{Node, left, right, width}
-use Rattle.om3.specs.Table.{Table}
-use Rattle.om3.specs.Down.{reached}
-use Rattle.om3.specs.Stopped.{hasReading, shares, inside, opened}
+use Rattle.kit.proofs.{_≡_, refl, sym, _∙_, Bool, true, false, not, _&&_, and-assoc, ⊎-elim, ℕ, _+_, _-_, _^_, _≤_, _<_}
+use Rattle.kit.proofs.{arith, leb, ltb, pow-mono, pow-lt, leb-true, ltb-true, le-leb, lt-ltb, le-ltb}
+use Rattle.words.specs.declared.{Column.Column, Range.Range}
+use Rattle.om3.specs.Document.{Node, left, right, width, Table, reached, hasReading, shares, inside, opened}
 use Rattle.om3.proofs.Tests.{and-left, and-right, both-true, below-or-not}
 use Rattle.node.proofs.Located.{left-located, right-located}
 use Rattle.om3.proofs.Intervals.{shares-overlap, overlap-shares, inside-within, within-inside}

@@ -1,34 +1,21 @@
 -- What the visit below a node promises, for each way it can go on: the node is not opened, it is unsound, or it is
 -- sound and both its halves are visited, one of which may add nothing. Assumes nothing.
-use mathlib.Core.Path.{_≡_, refl, sym, ap, _∙_}
-use mathlib.Core.Bool.{true, false, _&&_}
-use mathlib.Core.List.{List, [], _∷_, _++_, map, map-append}
-use Prim.Native.Nat.{ℕ, suc, _+_, _-_, _≤_}
-use native.Mathlib.Omega.{arith}
-use lib.IntN.{ℤ}
-use lib.ListN.{length-append}
-use Rattle.words.specs.declared.Column.{Column}
-use Rattle.words.specs.declared.NodeId.{NodeId}
-use Rattle.words.specs.declared.Range.{Range}
-use Rattle.om3.specs.Lists.{keep}
-use Rattle.om3.specs.Nodes.{Node, number, left, right}
-use Rattle.om3.specs.Table.{Table, lent}
-use Rattle.om3.specs.Down.{reached}
-use Rattle.om3.specs.Checks.{Check, andThen, inOrder}
-use Rattle.om3.specs.Sound.{soundNode, nodesBelow, examineNode, examineNodes}
-use Rattle.om3.specs.Stopped.{hasReading, shares, inside, opened, visited, isOuter, isInner}
+use Rattle.kit.proofs.{_≡_, refl, sym, ap, _∙_, true, false, _&&_, List, [], _∷_, _++_, map, map-append, ℕ, suc, _+_}
+use Rattle.kit.proofs.{_-_, _≤_, arith, ℤ, length-append}
+use Rattle.words.specs.declared.{Column.Column, NodeId.NodeId, Range.Range}
+use Rattle.om3.specs.Document.{keep, Node, number, left, right, Table, lent, reached, Check, andThen, inOrder}
+use Rattle.om3.specs.Document.{soundNode, nodesBelow, examineNode, examineNodes, hasReading, shares, inside, opened}
+use Rattle.om3.specs.Document.{visited, isOuter, isInner}
 use Rattle.node.proofs.Located.{one-more}
 use Rattle.om3.proofs.Examined.{in-order-append}
-use Rattle.om3.proofs.BelowOpened.{visited-left, visited-right, opened-kept, unopened-kept, outer-kept, outer-end}
 use Rattle.om3.proofs.BelowOpened.{inner-kept, inner-end, range-append}
+use Rattle.om3.proofs.BelowOpened.{visited-left, visited-right, opened-kept, unopened-kept, outer-kept, outer-end}
 use Rattle.node.specs.declared.Halves.{Halves}
 use Rattle.examining.proofs.Answers.{Stepped, stepped, not-stepped}
 use Rattle.walking.specs.Nodes.{At, Below, leftReached, rightReached, touchesOf, insideOf, openedOf}
 use Rattle.walking.specs.Seen.{unopenedOf, bothSeen, seenOf}
 use Rattle.walking.specs.Visiting.{SteppedDown, StopsAt, Visits, VisitedFrom}
-use Rattle.walking.specs.declared.Reached.{Reached}
-use Rattle.walking.specs.declared.Seen.{Seen}
-use Rattle.walking.specs.declared.Visited.{Visited}
+use Rattle.walking.specs.declared.{Reached.Reached, Seen.Seen, Visited.Visited}
 use Rattle.walking.proofs.Lending.{left-below, right-below, alone-below, both-below}
 use Rattle.walking.proofs.Touching.{touches-is, inside-is, opened-is, left-at, right-at}
 use Rattle.walking.proofs.SeenTogether.{seen-same, inner-append, inner-alone, outer-alone, nothing-before}

@@ -1,40 +1,21 @@
 -- What the walk from a node promises, for each way it can go on: the node is a single hour, it is unsound, or it is
 -- sound and the walk goes on with the half that it takes. Assumes nothing.
-use mathlib.Core.Path.{_≡_, refl, sym, ap, _∙_}
-use mathlib.Core.Bool.{true, false}
-use mathlib.Core.List.{List, _∷_}
-use mathlib.Core.Logic.{⊎-elim}
-use Prim.Native.Nat.{ℕ, suc, _+_, _-_, _≤_}
-use native.Mathlib.Omega.{arith}
-use lib.IntN.{ℤ}
-use Rattle.signed.proofs.Rules.{signed}
-use Rattle.words.specs.Said.{lowOf}
-use Rattle.words.specs.declared.Column.{Column}
-use Rattle.words.specs.declared.NodeId.{NodeId}
-use Rattle.words.specs.declared.Range.{Range}
-use Rattle.words.specs.declared.Range.the-variants.{Empty, Held}
-use Rattle.words.specs.declared.Reading.{Reading}
-use Rattle.words.specs.Bounds.{Readings}
-use Rattle.om3.specs.Nodes.{Node, number, left, right}
-use Rattle.om3.specs.Table.{Table, lent}
-use Rattle.om3.specs.Down.{reached}
-use Rattle.om3.specs.Checks.{inOrder}
-use Rattle.om3.specs.Sound.{soundNode}
-use Rattle.om3.specs.Finished.{walkNodes, walkEnd, readingAt}
-use Rattle.om3.proofs.Tests.{below-or-not}
-use Rattle.om3.proofs.Nodes.{width-half, start-hour}
-use Rattle.om3.proofs.Intervals.{width-some}
+use Rattle.kit.proofs.{_≡_, refl, sym, ap, _∙_, true, false, List, _∷_, ⊎-elim, ℕ, suc, _+_, _-_, _≤_, arith, ℤ}
+use Rattle.signed.proofs.{signed}
+use Rattle.words.specs.{lowOf, Readings}
+use Rattle.words.specs.declared.{Column.Column, NodeId.NodeId, Range.Range, Range.the-variants.Empty}
+use Rattle.words.specs.declared.{Range.the-variants.Held, Reading.Reading}
+use Rattle.om3.specs.Document.{Node, number, left, right, Table, lent, reached, inOrder, soundNode, walkNodes, walkEnd}
+use Rattle.om3.specs.Document.{readingAt}
+use Rattle.om3.proofs.{Tests.below-or-not, Nodes.width-half, Nodes.start-hour, Intervals.width-some}
 use Rattle.node.proofs.Located.{above-hours}
 use Rattle.node.specs.declared.Halves.{Halves}
 use Rattle.examining.proofs.Answers.{Stepped, stepped, not-stepped}
 use Rattle.walking.specs.Nodes.{At, Below, leftReached, rightReached}
 use Rattle.walking.specs.Visiting.{SteppedDown}
 use Rattle.walking.specs.Walking.{takesLeft, towards, Walks, Small, WalkedFrom}
-use Rattle.walking.specs.declared.Reached.{Reached}
-use Rattle.walking.specs.declared.Towards.{Towards}
-use Rattle.walking.specs.declared.Walked.{Walked}
-use Rattle.walking.proofs.Touching.{left-at, right-at}
-use Rattle.walking.proofs.Lending.{left-below, right-below}
+use Rattle.walking.specs.declared.{Reached.Reached, Towards.Towards, Walked.Walked}
+use Rattle.walking.proofs.{Touching.left-at, Touching.right-at, Lending.left-below, Lending.right-below}
 
 not-came : {i : NodeId} {r : Reading} {m : ℕ} → Walked.Unsound i ≡ Walked.Came r m → ⊥
 not-came e = let z : _≡_ {A = ℕ} 0 1 = cc in omega arith

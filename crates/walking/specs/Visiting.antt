@@ -8,33 +8,20 @@
 --   Visits               what a visit says of node v and the nodes below it
 --   InnerBelow cs ks i   the first and the last node of an inner range are lent, with all below them
 --   VisitedFrom          the contract of the visit below a node; TableVisited, of that from the root values
-use mathlib.Core.Path.{_≡_}
+use mathlib.Core.{Path._≡_, List.List}
 use mathlib.Core.Bool.{Bool, true, false, cond}
-use mathlib.Core.List.{List}
 use Prim.Native.Nat.{ℕ, suc, _+_, _*_, _-_, _^_, _≤_, _<_}
 use lib.IntN.{ℤ}
 use lib.ListN.{length}
-use Rattle.words.specs.declared.Column.{Column}
-use Rattle.words.specs.declared.NodeId.{NodeId}
-use Rattle.words.specs.declared.Timestamp.{Timestamp}
-use Rattle.words.specs.declared.Range.{Range}
+use Rattle.words.specs.declared.{Column.Column, NodeId.NodeId, Timestamp.Timestamp, Range.Range}
 use Rattle.words.specs.declared.Refusal.the-variants as refusal
-use Rattle.words.specs.Bounds.{Readings}
-use Rattle.om3.specs.Lists.{keep}
-use Rattle.om3.specs.Series.{levels, P}
-use Rattle.om3.specs.Nodes.{Node, left, right}
-use Rattle.om3.specs.Table.{Table, lent}
-use Rattle.om3.specs.Down.{reached}
-use Rattle.om3.specs.Checks.{Check, passes, refuses}
-use Rattle.om3.specs.Sound.{soundNode, nodesBelow, examine, examineNodes}
-use Rattle.om3.specs.Stopped.{opened, openedNodes, visited}
+use Rattle.words.specs.{Readings}
+use Rattle.om3.specs.Document.{keep, levels, P, Node, left, right, Table, lent, reached, Check, passes, refuses}
+use Rattle.om3.specs.Document.{soundNode, nodesBelow, examine, examineNodes, opened, openedNodes, visited}
 use Rattle.node.specs.declared.Halves.{Halves}
+use Rattle.walking.specs.{Seen.seenOf, Seen.tableSeen}
 use Rattle.walking.specs.Nodes.{At, Below, isPairOf}
-use Rattle.walking.specs.Seen.{seenOf, tableSeen}
-use Rattle.walking.specs.declared.Reached.{Reached}
-use Rattle.walking.specs.declared.Inner.{Inner}
-use Rattle.walking.specs.declared.Seen.{Seen}
-use Rattle.walking.specs.declared.Visited.{Visited}
+use Rattle.walking.specs.declared.{Reached.Reached, Inner.Inner, Seen.Seen, Visited.Visited}
 
 -- A sound node's halves have the ranges reached there.
 abbrev pub halvesAt : (l n : ℕ) → Table → Node → Halves

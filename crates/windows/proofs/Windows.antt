@@ -1,19 +1,11 @@
 -- Checks 5 and 6 and the edges of a column, for each way the code goes; the edges alone have no check 3. Assumes
 -- nothing.
-use mathlib.Core.Path.{_≡_, refl}
-use mathlib.Core.Bool.{Bool, true, false, not, _&&_, _||_}
-use Prim.Native.Nat.{ℕ, _+_, _≤_, _<_}
-use native.Mathlib.Omega.{arith}
-use lib.Dec.{leb, ltb, eqb}
-use borrow.Author.Tests.{leb-true, leb-false, ltb-true, ltb-false, not-false}
-use Rattle.words.specs.Constants.{largestHours, mostColumns}
-use Rattle.words.specs.declared.Refusal.{Refusal}
+use Rattle.kit.proofs.{_≡_, refl, Bool, true, false, not, _&&_, _||_, ℕ, _+_, _≤_, _<_, arith, leb, ltb, eqb, leb-true}
+use Rattle.kit.proofs.{leb-false, ltb-true, ltb-false, not-false}
+use Rattle.words.specs.{largestHours, mostColumns}
+use Rattle.words.specs.declared.{Refusal.Refusal, Column.Column, Edges.Edges}
 use Rattle.words.specs.declared.Refusal.the-variants.{BadHours, BadWindow, BadColumn}
-use Rattle.words.specs.declared.Column.{Column}
-use Rattle.words.specs.declared.Edges.{Edges}
-use Rattle.om3.specs.Series.{badHours}
-use Rattle.om3.specs.Checks.{Check, passes, refuses, inOrder, answerBy}
-use Rattle.om3.specs.Columns.{column, edgesChecks, edges}
+use Rattle.om3.specs.Document.{badHours, Check, passes, refuses, inOrder, answerBy, column, edgesChecks, edges}
 use Rattle.om3.proofs.Tests.{and-left, and-right, neither}
 use Rattle.windows.specs.Windows.{Edged, windowCheck}
 

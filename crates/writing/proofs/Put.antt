@@ -1,21 +1,11 @@
 -- The parts of a record are put one after the other, each right after what is there. Assumes nothing.
-use mathlib.Core.Path.{_≡_, _∙_}
-use mathlib.Core.List.{List, _++_, flatMap}
-use Prim.Native.Nat.{ℕ, _+_, _-_, _*_, _/_, _≤_}
-use native.Mathlib.Omega.{arith}
-use lib.IntN.{ℤ}
-use lib.ListN.{length, take, drop, set, length-append, length-drop}
-use lib.Seq.{length-take-le, take-all}
-use Rattle.words.specs.Constants.{version}
-use Rattle.om3.specs.Series.{P}
-use Rattle.om3.specs.Table.{lent}
-use Rattle.om3.specs.Calls.{filled}
-use Rattle.om3.specs.Bytes.{bytesOf, threeBytes}
-use Rattle.om3.specs.Record.{lengthFor, recordLength, headerOf, headerSize, recordOf}
+use Rattle.kit.proofs.{_≡_, _∙_, List, _++_, flatMap, ℕ, _+_, _-_, _*_, _/_, _≤_, arith, ℤ, length, take, drop, set}
+use Rattle.kit.proofs.{length-append, length-drop, length-take-le, take-all}
+use Rattle.words.specs.{version}
+use Rattle.om3.specs.Document.{P, lent, filled, bytesOf, threeBytes, lengthFor, recordLength, headerOf, headerSize}
+use Rattle.om3.specs.Document.{recordOf}
 use Rattle.om3.proofs.Filled.{filled-length, filled-part, filled-set, filled-tail}
-use Rattle.om3.proofs.Bytes.{bytes-length}
-use Rattle.om3.proofs.ThreeBytes.{threes-size}
-use Rattle.om3.proofs.Records.{header-size}
+use Rattle.om3.proofs.{Bytes.bytes-length, ThreeBytes.threes-size, Records.header-size}
 use Rattle.writing.specs.Writing.{Ready}
 
 module _ (stated n : ℕ) (old : List ℕ) (long : headerSize ≤ length old) where

@@ -1,29 +1,12 @@
 -- Each answer of writing a record: its checks in their order, and the record of a sound table. Assumes nothing.
-use mathlib.Core.Path.{_≡_, sym, _∙_}
-use mathlib.Core.Bool.{true, false}
-use mathlib.Core.List.{List}
-use Prim.Native.Nat.{ℕ, _+_, _/_, _<_}
-use native.Mathlib.Nat.{le-refl}
-use native.Mathlib.Omega.{arith}
-use lib.IntN.{ℤ, pos}
-use lib.ListN.{length, take}
-use lib.Seq.{length-take-le, getD-take, take-take}
-use Rattle.words.specs.declared.NodeId.{NodeId}
-use Rattle.words.specs.declared.Refusal.{Refusal}
+use Rattle.kit.proofs.{_≡_, sym, _∙_, true, false, List, ℕ, _+_, _/_, _<_, le-refl, arith, ℤ, pos, length, take}
+use Rattle.kit.proofs.{length-take-le, getD-take, take-take}
+use Rattle.words.specs.declared.{NodeId.NodeId, Refusal.Refusal, Writing.Writing}
 use Rattle.words.specs.declared.Refusal.the-variants as refusal
-use Rattle.words.specs.declared.Writing.{Writing}
-use Rattle.om3.specs.Series.{badHours, levels, P}
-use Rattle.om3.specs.Table.{lent}
-use Rattle.om3.specs.Checks.{Check, passes, refuses, inOrder}
-use Rattle.om3.specs.Refusals.{tableShort, examineTable}
-use Rattle.om3.specs.Calls.{filled}
-use Rattle.om3.specs.Record.{lengthFor, recordSize, recordOf}
-use Rattle.om3.specs.RecordCalls.{writingChecks}
+use Rattle.om3.specs.Document.{badHours, levels, P, lent, Check, passes, refuses, inOrder, tableShort, examineTable}
+use Rattle.om3.specs.Document.{filled, lengthFor, recordSize, recordOf, writingChecks}
 use Rattle.sizes.specs.Lent.{Enough}
-use Rattle.om3.proofs.Making.{good-some}
-use Rattle.om3.proofs.Levels.{levels-some}
-use Rattle.om3.proofs.Examined.{examine-sound}
-use Rattle.om3.proofs.Threes.{sound-threes}
+use Rattle.om3.proofs.{Making.good-some, Levels.levels-some, Examined.examine-sound, Threes.sound-threes}
 use Rattle.sizes.proofs.TableChecks as checked
 use Rattle.packing.specs.Packing.{EachInThree}
 use Rattle.examining.specs.declared.Verdict.{Verdict}

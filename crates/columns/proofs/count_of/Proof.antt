@@ -1,6 +1,5 @@
 -- `count_of` is the count's own equation; so few nodes can be counted. Assumes nothing.
-use mathlib.Core.Path.{refl}
-use native.Mathlib.Omega.{arith}
+use Rattle.kit.proofs.{refl, arith}
 use Rattle.columns.proofs.count_of.Statement.{statement}
 use Rattle.columns.proofs.count_of.Tie as tie
 

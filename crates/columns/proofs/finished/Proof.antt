@@ -1,11 +1,8 @@
 -- `finished` makes the checks in their order, and then finishes the column. Assumes nothing.
-use mathlib.Core.Path.{_≡_, sym, _∙_}
-use borrow.Author.Needs.{needs}
-use Rattle.om3.specs.Table.{lent}
-use Rattle.om3.specs.Checks.{passes}
-use Rattle.sizes.specs.Lent.{TableLent}
+use Rattle.kit.proofs.{_≡_, sym, _∙_, needs}
+use Rattle.om3.specs.Document.{lent, passes}
+use Rattle.sizes.specs.{Lent.TableLent, Lent.lentCheck}
 use Rattle.om3.proofs.Making.{good-some}
-use Rattle.sizes.specs.Lent.{lentCheck}
 use Rattle.sizes.proofs.Lent as checking
 use Rattle.columns.proofs.Calls as laws
 use Rattle.columns.proofs.finished.Statement.{statement}

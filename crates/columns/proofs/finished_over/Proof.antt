@@ -1,8 +1,6 @@
 -- `finished_over` visits the table, and walks from the first and the last inner node if there are some. Assumes
 -- nothing.
-use mathlib.Core.Path.{refl}
-use native.Mathlib.Omega.{arith}
-use borrow.Author.Needs.{needs}
+use Rattle.kit.proofs.{refl, arith, needs}
 use Rattle.om3.proofs.Levels.{P-most}
 use Rattle.walking.specs.Visiting.{TableVisited}
 use Rattle.walking.specs.declared.Visited.{Visited}

@@ -1,11 +1,8 @@
 -- `found` walks to the first reading and, if it came there, to the last. Assumes nothing.
-use mathlib.Core.Path.{refl}
-use native.Mathlib.Omega.{arith}
-use borrow.Author.Needs.{needs}
-use Rattle.signed.proofs.Widths.{reads-back}
+use Rattle.kit.proofs.{refl, arith, needs}
+use Rattle.signed.proofs.{reads-back}
 use Rattle.walking.specs.Walking.{WalkedFrom}
-use Rattle.walking.specs.declared.Walked.{Walked}
-use Rattle.walking.specs.declared.Towards.{Towards}
+use Rattle.walking.specs.declared.{Walked.Walked, Towards.Towards}
 use Rattle.columns.proofs.Founding as laws
 use Rattle.columns.proofs.found.Statement.{statement}
 use Rattle.columns.proofs.found.Tie as tie

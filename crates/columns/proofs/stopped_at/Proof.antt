@@ -1,11 +1,7 @@
 -- `stopped_at` refuses a level with more nodes than there are hours, and divides the hours by the nodes. Assumes
 -- nothing.
-use mathlib.Core.Path.{_≡_}
-use Prim.Native.Nat.{_-_, _/_, _^_, _≤_}
-use native.Mathlib.Omega.{arith}
-use lib.Pow.{pow-pos}
-use borrow.Author.Needs.{needs}
-use Rattle.om3.specs.Series.{levels, P}
+use Rattle.kit.proofs.{_≡_, _-_, _/_, _^_, _≤_, arith, pow-pos, needs}
+use Rattle.om3.specs.Document.{levels, P}
 use Rattle.om3.proofs.Making.{good-some}
 use Rattle.columns.proofs.Depths as depths
 use Rattle.columns.proofs.Stopping as laws

@@ -1,7 +1,5 @@
 -- `stopped_over` visits the table and counts what was opened. Assumes nothing.
-use mathlib.Core.Path.{refl}
-use native.Mathlib.Omega.{arith}
-use borrow.Author.Needs.{needs}
+use Rattle.kit.proofs.{refl, arith, needs}
 use Rattle.om3.proofs.Levels.{P-most}
 use Rattle.walking.specs.Visiting.{TableVisited}
 use Rattle.walking.specs.declared.Visited.{Visited}

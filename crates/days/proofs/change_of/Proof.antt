@@ -1,8 +1,6 @@
 -- `change_of` subtracts where there is a reading; both grams are small. Assumes nothing.
-use mathlib.Core.Path.{ap}
-use borrow.Author.Needs.{needs}
-use Rattle.words.specs.declared.Answer.{Answer}
-use Rattle.words.specs.declared.DayChange.{DayChange}
+use Rattle.kit.proofs.{ap, needs}
+use Rattle.words.specs.declared.{Answer.Answer, DayChange.DayChange}
 use Rattle.columns.specs.Drawing.{SmallAnswer}
 use Rattle.days.proofs.Daily as laws
 use Rattle.days.proofs.change_of.Statement.{statement}

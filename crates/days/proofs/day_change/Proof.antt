@@ -1,14 +1,9 @@
 -- `day_change` makes the checks in their order, and then finishes the column of the day's hours. Assumes nothing.
-use mathlib.Core.Path.{_≡_, sym, _∙_}
-use Prim.Native.Nat.{_*_, _≤_}
-use native.Mathlib.Omega.{arith}
-use borrow.Author.Needs.{needs}
-use Rattle.words.specs.Constants.{dayHours}
-use Rattle.om3.specs.Table.{lent}
-use Rattle.om3.specs.Checks.{passes}
-use Rattle.sizes.specs.Lent.{TableLent}
+use Rattle.kit.proofs.{_≡_, sym, _∙_, _*_, _≤_, arith, needs}
+use Rattle.words.specs.{dayHours}
+use Rattle.om3.specs.Document.{lent, passes}
+use Rattle.sizes.specs.{Lent.TableLent, Lent.lentCheck}
 use Rattle.om3.proofs.Making.{good-some}
-use Rattle.sizes.specs.Lent.{lentCheck}
 use Rattle.sizes.proofs.Lent as checking
 use Rattle.days.proofs.Changing as laws
 use Rattle.days.proofs.day_change.Statement.{statement}

@@ -1,6 +1,5 @@
 -- `allowed` makes the two tests of the definition, the hour's number first. Assumes nothing.
-use borrow.Author.Needs.{needs}
-use borrow.Author.Tests.{lt-ltb, le-ltb}
+use Rattle.kit.proofs.{needs, lt-ltb, le-ltb}
 use Rattle.examining.proofs.allowed.Statement.{statement}
 use Rattle.examining.proofs.allowed.Tie as tie
 

@@ -1,9 +1,6 @@
 -- `examine` examines node 0, which gives node 1 its range, and then node 1 and all below it. Assumes nothing.
-use mathlib.Core.Path.{refl}
-use native.Mathlib.Omega.{arith}
-use borrow.Author.Needs.{needs}
-use Rattle.om3.proofs.Levels.{2≤P}
-use Rattle.om3.proofs.Making.{good-some}
+use Rattle.kit.proofs.{refl, arith, needs}
+use Rattle.om3.proofs.{Levels.2≤P, Making.good-some}
 use Rattle.examining.proofs.AtRoot as laws
 use Rattle.examining.proofs.examine.Statement.{statement}
 use Rattle.examining.proofs.examine.Tie as tie

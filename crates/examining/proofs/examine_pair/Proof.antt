@@ -1,6 +1,5 @@
 -- `examine_pair` says whether the pair's two hours come out. Assumes nothing.
-use mathlib.Core.Path.{sym, _∙_}
-use borrow.Author.Needs.{needs}
+use Rattle.kit.proofs.{sym, _∙_, needs}
 use Rattle.examining.proofs.Examining as laws
 use Rattle.examining.proofs.examine_pair.Statement.{statement}
 use Rattle.examining.proofs.examine_pair.Tie as tie

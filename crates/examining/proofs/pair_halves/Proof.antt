@@ -1,8 +1,5 @@
 -- `pair_halves` takes the step down at a pair and tests both hours that come out. Assumes nothing.
-use mathlib.Core.Path.{_≡_, sym, _∙_}
-use Prim.Native.Nat.{_/_}
-use lib.ListN.{getD}
-use borrow.Author.Needs.{needs}
+use Rattle.kit.proofs.{_≡_, sym, _∙_, _/_, getD, needs}
 use Rattle.node.specs.declared.Halves.{Halves}
 use Rattle.node.specs.Steps.{pairOf}
 use Rattle.examining.proofs.pair_halves.Statement.{statement}

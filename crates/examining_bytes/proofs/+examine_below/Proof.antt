@@ -1,13 +1,9 @@
 -- `examine_below` examines the node it is at and then both its halves, the left one first, with the ranges reached
 -- there; halves of four hours without calling itself. Assumes nothing.
-use mathlib.Core.Path.{_≡_, sym, _∙_}
-use Prim.Native.Nat.{ℕ, _+_, _*_, _/_, _≤_, _<_}
-use native.Mathlib.Omega.{arith}
-use lib.ListN.{length}
+use Rattle.kit.proofs.{_≡_, sym, _∙_, ℕ, _+_, _*_, _/_, _≤_, _<_, arith, length, needs}
 use borrow.Fn.Kinds.{In}
 use borrow.Fn.PlainCycle.{Measures, is, falls, and}
-use borrow.Author.Needs.{needs}
-use Rattle.words.specs.Bounds.{Readings}
+use Rattle.words.specs.{Readings}
 use Rattle.node.proofs.Rooms.{places-room, left-room, right-room}
 use Rattle.node.specs.declared.Halves.{Halves}
 use Rattle.examining.proofs.Examining as laws

@@ -1,13 +1,7 @@
 -- `examine` examines node 0, which gives node 1 its range, and then node 1 and all below it. Assumes nothing.
-use mathlib.Core.Path.{_≡_, _∙_}
-use mathlib.Core.List.{List}
-use Prim.Native.Nat.{ℕ, _*_, _/_, _≤_}
-use native.Mathlib.Omega.{arith}
-use lib.IntN.{ℤ, pos}
-use lib.ListN.{length, getD}
-use borrow.Author.Needs.{needs}
-use Rattle.signed.proofs.Widths.{reads-back}
-use Rattle.om3.specs.Series.{P}
+use Rattle.kit.proofs.{_≡_, _∙_, List, ℕ, _*_, _/_, _≤_, arith, ℤ, pos, length, getD, needs}
+use Rattle.signed.proofs.{reads-back}
+use Rattle.om3.specs.Document.{P}
 use Rattle.om3.proofs.Levels.{2≤P, P-even}
 use Rattle.node.specs.declared.Root.{Root}
 use Rattle.node.specs.Steps.{rootOf}

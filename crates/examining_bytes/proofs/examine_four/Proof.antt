@@ -1,6 +1,5 @@
 -- `examine_four` examines the node and then its pairs. Assumes nothing.
-use mathlib.Core.Path.{sym, _∙_}
-use borrow.Author.Needs.{needs}
+use Rattle.kit.proofs.{sym, _∙_, needs}
 use Rattle.examining.proofs.Examining as laws
 use Rattle.examining_bytes.proofs.examine_four.Statement.{statement}
 use Rattle.examining_bytes.proofs.examine_four.Tie as tie

@@ -1,7 +1,6 @@
 -- `halves_at` reads both details from their bytes. Assumes nothing.
-use mathlib.Core.Path.{sym, _∙_}
-use borrow.Author.Needs.{needs}
-use Rattle.signed.proofs.Widths.{reads-back}
+use Rattle.kit.proofs.{sym, _∙_, needs}
+use Rattle.signed.proofs.{reads-back}
 use Rattle.examining_bytes.proofs.Unpacked.{details-read}
 use Rattle.examining_bytes.proofs.halves_at.Statement.{statement}
 use Rattle.examining_bytes.proofs.halves_at.Tie as tie

@@ -1,6 +1,5 @@
 -- `level` takes the stretch, which lies within the lent coefficients. Assumes nothing.
-use native.Mathlib.Omega.{arith}
-use borrow.Author.Needs.{needs}
+use Rattle.kit.proofs.{arith, needs}
 use Rattle.level.proofs.level.Statement.{statement}
 use Rattle.level.proofs.level.Tie as tie
 use Rattle.level.proofs.Stretches.{part-fits, part-is}

@@ -1,9 +1,6 @@
 -- `stretch` makes the tests of the definition, powers of two for levels. Assumes nothing.
-use mathlib.Core.Path.{_≡_, sym, _∙_}
-use mathlib.Core.Bool.{false}
-use native.Mathlib.Omega.{arith}
-use borrow.Author.Needs.{needs}
-use Rattle.om3.specs.Series.{badHours}
+use Rattle.kit.proofs.{_≡_, sym, _∙_, false, arith, needs}
+use Rattle.om3.specs.Document.{badHours}
 use Rattle.om3.proofs.Making.{good-some}
 use Rattle.level.proofs.stretch.Statement.{statement}
 use Rattle.level.proofs.stretch.Tie as tie

@@ -1,7 +1,6 @@
 -- `ask` makes its checks in their order and reads the place asked for. Assumes nothing.
-use mathlib.Core.Path.{_∙_}
-use borrow.Author.Needs.{needs}
-use Rattle.signed.proofs.Widths.{reads-back}
+use Rattle.kit.proofs.{_∙_, needs}
+use Rattle.signed.proofs.{reads-back}
 use Rattle.opening.proofs.Asked as laws
 use Rattle.opening.proofs.ask.Statement.{statement}
 use Rattle.opening.proofs.ask.Tie as tie

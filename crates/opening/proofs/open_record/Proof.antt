@@ -1,15 +1,7 @@
 -- `open_record` makes the checks in their order. Assumes nothing.
-use mathlib.Core.Path.{_≡_, sym, _∙_}
-use mathlib.Core.Bool.{false}
-use Prim.Native.Nat.{_≤_}
-use native.Mathlib.Nat.{le-antisymm}
-use native.Mathlib.Omega.{arith}
-use lib.ListN.{length}
-use lib.Seq.{length-take-le}
-use borrow.Author.Needs.{needs}
-use Rattle.om3.specs.Series.{badHours}
-use Rattle.om3.proofs.Making.{good-some}
-use Rattle.om3.proofs.Levels.{P-most}
+use Rattle.kit.proofs.{_≡_, sym, _∙_, false, _≤_, le-antisymm, arith, length, length-take-le, needs}
+use Rattle.om3.specs.Document.{badHours}
+use Rattle.om3.proofs.{Making.good-some, Levels.P-most}
 use Rattle.opening.proofs.Opened as laws
 use Rattle.opening.proofs.open_record.Statement.{statement}
 use Rattle.opening.proofs.open_record.Tie as tie

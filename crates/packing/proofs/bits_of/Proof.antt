@@ -1,9 +1,6 @@
 -- `bits_of` adds 2^24 to a negative number. Assumes nothing.
-use Prim.Native.Nat.{_^_}
-use lib.IntN.{pos}
-use mir.Facts.{toZ-ofZ}
-use Rattle.signed.proofs.Sums.{add-parts}
-use Rattle.signed.proofs.Rules.{signed}
+use Rattle.kit.proofs.{_^_, pos, toZ-ofZ}
+use Rattle.signed.proofs.{add-parts, signed}
 use Rattle.packing.proofs.Threes.{bits-below, bits-above}
 use Rattle.packing.proofs.bits_of.Statement.{statement}
 use Rattle.packing.proofs.bits_of.Tie as tie

@@ -1,10 +1,7 @@
 -- `coefficient_at` reads the three bytes of its place. Assumes nothing.
-use mathlib.Core.Path.{ap, _∙_}
-use Prim.Native.Nat.{_*_}
-use native.Mathlib.Omega.{arith}
-use borrow.Author.Needs.{needs}
-use Rattle.signed.proofs.Widths.{reads-back}
-use Rattle.om3.specs.Bytes.{numberFrom, signedOf}
+use Rattle.kit.proofs.{ap, _∙_, _*_, arith, needs}
+use Rattle.signed.proofs.{reads-back}
+use Rattle.om3.specs.Document.{numberFrom, signedOf}
 use Rattle.om3.proofs.RecordsForth.{part-length}
 use Rattle.packing.proofs.Packed.{part-three}
 use Rattle.packing.proofs.coefficient_at.Statement.{statement}

@@ -1,8 +1,5 @@
 -- `number_from` keeps the number that the bytes read so far spell. Assumes nothing.
-use Prim.Native.Nat.{_-_}
-use native.Mathlib.Omega.{arith}
-use lib.ListN.{length}
-use borrow.Author.Needs.{needs}
+use Rattle.kit.proofs.{_-_, arith, length, needs}
 use Rattle.packing.proofs.Spelled.{Read, read-none, read-more, read-small, read-all}
 use Rattle.packing.proofs.number_from.Statement.{statement}
 use Rattle.packing.proofs.number_from.Tie as tie

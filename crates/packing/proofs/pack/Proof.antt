@@ -1,12 +1,7 @@
 -- `pack` writes the three bytes of one coefficient after the other. Assumes nothing.
-use mathlib.Core.Path.{ap, _∙_}
-use Prim.Native.Nat.{_-_}
-use native.Mathlib.Omega.{arith}
-use lib.IntN.{pos}
-use lib.ListN.{length, getD}
-use borrow.Author.Needs.{needs}
-use Rattle.signed.proofs.Widths.{reads-back}
-use Rattle.om3.specs.Bytes.{bitsOf}
+use Rattle.kit.proofs.{ap, _∙_, _-_, arith, pos, length, getD, needs}
+use Rattle.signed.proofs.{reads-back}
+use Rattle.om3.specs.Document.{bitsOf}
 use Rattle.packing.proofs.Packed.{Packed, packed-none, packed-length, packed-more, packed-all}
 use Rattle.packing.proofs.pack.Statement.{statement}
 use Rattle.packing.proofs.pack.Tie as tie

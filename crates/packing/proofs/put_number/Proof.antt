@@ -1,6 +1,5 @@
 -- `put_number` writes the low byte of what is left of the number before those that are written. Assumes nothing.
-use native.Mathlib.Omega.{arith}
-use borrow.Author.Needs.{needs}
+use Rattle.kit.proofs.{arith, needs}
 use Rattle.packing.proofs.Spelled.{Put, put-none, put-length, put-more, put-all}
 use Rattle.packing.proofs.put_number.Statement.{statement}
 use Rattle.packing.proofs.put_number.Tie as tie

@@ -1,10 +1,6 @@
 -- `signed_of` takes 2^24 away from what is at least half of it. Assumes nothing.
-use mathlib.Core.Path.{sym, _∙_}
-use native.Mathlib.Omega.{arith}
-use borrow.Author.Needs.{needs}
-use mir.Syntax.{w32}
-use mir.Facts.{toZ-ofZ, toZ-pos}
-use Rattle.signed.proofs.Rules.{signed}
+use Rattle.kit.proofs.{sym, _∙_, arith, needs, w32, toZ-ofZ, toZ-pos}
+use Rattle.signed.proofs.{signed}
 use Rattle.om3.proofs.ThreeBytes.{signed-low}
 use Rattle.packing.proofs.Threes.{signed-above}
 use Rattle.packing.proofs.signed_of.Statement.{statement}

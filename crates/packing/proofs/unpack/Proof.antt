@@ -1,10 +1,6 @@
 -- `unpack` writes one coefficient after the other. Assumes nothing.
-use mathlib.Core.Path.{_∙_}
-use Prim.Native.Nat.{_-_}
-use native.Mathlib.Omega.{arith}
-use lib.ListN.{length}
-use borrow.Author.Needs.{needs}
-use Rattle.signed.proofs.Widths.{reads-back}
+use Rattle.kit.proofs.{_∙_, _-_, arith, length, needs}
+use Rattle.signed.proofs.{reads-back}
 use Rattle.packing.proofs.Packed.{Unpacked, unpacked-none, unpacked-length, unpacked-more, unpacked-all}
 use Rattle.packing.proofs.unpack.Statement.{statement}
 use Rattle.packing.proofs.unpack.Tie as tie

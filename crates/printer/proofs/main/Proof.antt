@@ -1,10 +1,5 @@
 -- `main` writes as much of the buffer as was printed. Assumes nothing.
-use mathlib.Core.Path.{sym}
-use Prim.Native.Nat.{ℕ, _≤_}
-use native.Mathlib.Omega.{arith}
-use lib.ListN.{length, length-replicate}
-use lib.Seq.{length-take-le}
-use borrow.Author.Needs.{needs}
+use Rattle.kit.proofs.{sym, ℕ, _≤_, arith, length, length-replicate, length-take-le, needs}
 use Rattle.printing.specs.Printing.{room}
 use Rattle.printing.proofs.Putting.{puts-within}
 use Rattle.printer.proofs.main.Statement.{statement}

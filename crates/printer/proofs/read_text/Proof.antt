@@ -1,7 +1,5 @@
 -- `read_text` counts its reads down. A piece keeps its length, of which a part is lent. Assumes nothing.
-use mathlib.Core.Path.{_≡_}
-use lib.ListN.{length}
-use borrow.Author.Needs.{needs}
+use Rattle.kit.proofs.{_≡_, length, needs}
 use Rattle.printer.proofs.read_text.Statement.{statement}
 use Rattle.printer.proofs.read_text.Tie as tie
 

@@ -1,8 +1,6 @@
 -- `read_pieces` goes on where a piece ends, which is after its beginning. The measure is how many bytes are left.
 -- Assumes nothing.
-use Prim.Native.Nat.{_-_}
-use lib.ListN.{length}
-use borrow.Author.Needs.{needs}
+use Rattle.kit.proofs.{_-_, length, needs}
 use Rattle.printer_vectors.proofs.read_pieces.Statement.{statement}
 use Rattle.printer_vectors.proofs.read_pieces.Tie as tie
 

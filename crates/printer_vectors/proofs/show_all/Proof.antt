@@ -1,8 +1,6 @@
 -- `show_all` goes on only where a text ends after it begins. The measure is how many bytes are left.
 -- Assumes nothing.
-use Prim.Native.Nat.{_-_}
-use lib.ListN.{length}
-use borrow.Author.Needs.{needs}
+use Rattle.kit.proofs.{_-_, length, needs}
 use Rattle.printer_vectors.proofs.show_all.Statement.{statement}
 use Rattle.printer_vectors.proofs.show_all.Tie as tie
 

@@ -1,13 +1,7 @@
 -- `read_parts` makes checks 3 and 4 in their order, each of which refuses with nothing written, and then unpacks the
 -- coefficients and copies the codes of a sound table. Assumes nothing.
-use mathlib.Core.Path.{_≡_, sym, _∙_}
-use mathlib.Core.Bool.{false}
-use Prim.Native.Nat.{_/_, _≤_}
-use lib.ListN.{length}
-use lib.Seq.{length-take-le}
-use borrow.Author.Needs.{needs}
-use Rattle.om3.specs.Table.{lent}
-use Rattle.om3.specs.Refusals.{tableShort}
+use Rattle.kit.proofs.{_≡_, sym, _∙_, false, _/_, _≤_, length, length-take-le, needs}
+use Rattle.om3.specs.Document.{lent, tableShort}
 use Rattle.reading.proofs.ReadingParts as laws
 use Rattle.reading.proofs.read_parts.Statement.{statement}
 use Rattle.reading.proofs.read_parts.Tie as tie

@@ -1,7 +1,5 @@
 -- `read_record` opens the record and reads its parts, or hands on why it was refused. Assumes nothing.
-use mathlib.Core.Path.{sym, _∙_}
-use native.Mathlib.Omega.{arith}
-use borrow.Author.Needs.{needs}
+use Rattle.kit.proofs.{sym, _∙_, arith, needs}
 use Rattle.reading.proofs.ReadingRecords as laws
 use Rattle.reading.proofs.read_record.Statement.{statement}
 use Rattle.reading.proofs.read_record.Tie as tie

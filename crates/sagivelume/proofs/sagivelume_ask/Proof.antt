@@ -1,6 +1,5 @@
 -- The call is handed on, and its answer told in numbers. Assumes nothing.
-use mathlib.Core.Path.{ap, _∙_}
-use borrow.Author.Needs.{needs}
+use Rattle.kit.proofs.{ap, _∙_, needs}
 use Rattle.told.specs.Records.{askingTold}
 use Rattle.sagivelume.proofs.sagivelume_ask.Statement.{statement}
 use Rattle.sagivelume.proofs.sagivelume_ask.Tie as tie

@@ -1,6 +1,5 @@
 -- The call is handed on, and its answer told in numbers. Assumes nothing.
-use mathlib.Core.Path.{ap, _∙_}
-use borrow.Author.Needs.{needs}
+use Rattle.kit.proofs.{ap, _∙_, needs}
 use Rattle.told.specs.Columns.{changeTold}
 use Rattle.sagivelume.proofs.sagivelume_day_change.Statement.{statement}
 use Rattle.sagivelume.proofs.sagivelume_day_change.Tie as tie

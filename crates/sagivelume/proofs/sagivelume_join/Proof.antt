@@ -1,7 +1,6 @@
 -- Both answers are taken in, joined, and the joined one told in numbers. Assumes nothing.
-use mathlib.Core.Path.{ap, ap₂, _∙_}
-use borrow.Author.Needs.{needs}
-use Rattle.om3.specs.Joined.{joined}
+use Rattle.kit.proofs.{ap, ap₂, _∙_, needs}
+use Rattle.om3.specs.Document.{joined}
 use Rattle.told.specs.Columns.{answerTold}
 use Rattle.sagivelume.proofs.sagivelume_join.Statement.{statement}
 use Rattle.sagivelume.proofs.sagivelume_join.Tie as tie

@@ -1,6 +1,5 @@
 -- The call is handed on, and its answer told in numbers. Assumes nothing.
-use mathlib.Core.Path.{ap, _∙_}
-use borrow.Author.Needs.{needs}
+use Rattle.kit.proofs.{ap, _∙_, needs}
 use Rattle.told.specs.Records.{openingTold}
 use Rattle.sagivelume.proofs.sagivelume_open_record.Statement.{statement}
 use Rattle.sagivelume.proofs.sagivelume_open_record.Tie as tie

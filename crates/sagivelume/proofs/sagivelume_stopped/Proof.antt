@@ -1,6 +1,5 @@
 -- The call is handed on, and its answer told in numbers. Assumes nothing.
-use mathlib.Core.Path.{ap, _∙_}
-use borrow.Author.Needs.{needs}
+use Rattle.kit.proofs.{ap, _∙_, needs}
 use Rattle.told.specs.Columns.{stoppedTold}
 use Rattle.sagivelume.proofs.sagivelume_stopped.Statement.{statement}
 use Rattle.sagivelume.proofs.sagivelume_stopped.Tie as tie

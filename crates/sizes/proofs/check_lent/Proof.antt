@@ -1,10 +1,8 @@
 -- `check_lent` makes checks 1 and 3 in their order. Assumes nothing.
-use mathlib.Core.Path.{_≡_, sym, _∙_}
-use mathlib.Core.Bool.{false}
-use Rattle.om3.specs.Series.{badHours}
+use Rattle.kit.proofs.{_≡_, sym, _∙_, false, needs}
+use Rattle.om3.specs.Document.{badHours}
 use Rattle.om3.proofs.Making.{good-some}
 use Rattle.sizes.proofs.Lent as laws
-use borrow.Author.Needs.{needs}
 use Rattle.sizes.proofs.check_lent.Statement.{statement}
 use Rattle.sizes.proofs.check_lent.Tie as tie
 

@@ -1,7 +1,6 @@
 -- `places` doubles from 2 on. The invariant: p is a power of two up to P. The measure is what p lacks of n. Assumes
 -- nothing.
-use Prim.Native.Nat.{_-_}
-use native.Mathlib.Omega.{arith}
+use Rattle.kit.proofs.{_-_, arith}
 use Rattle.sizes.proofs.places.Statement.{statement}
 use Rattle.sizes.proofs.places.Tie as tie
 use Rattle.sizes.proofs.Powers.{Power, power-two, power-double, power-done}

@@ -1,8 +1,6 @@
 -- `power` doubles j times. The invariant: p is 2^k, and k is at most j. The measure is what k lacks of j. Assumes
 -- nothing.
-use mathlib.Core.Path.{_≡_, refl}
-use Prim.Native.Nat.{_-_, _^_, _≤_}
-use native.Mathlib.Omega.{arith}
+use Rattle.kit.proofs.{_≡_, refl, _-_, _^_, _≤_, arith}
 use Rattle.sizes.proofs.Powers.{double-again, double-fits, doubled}
 use Rattle.sizes.proofs.power.Statement.{statement}
 use Rattle.sizes.proofs.power.Tie as tie

@@ -1,9 +1,7 @@
 -- `put` writes the low of what the hour comes out as, 2,000,003 for a gap; past the end a write changes nothing.
 -- Assumes nothing.
-use mathlib.Core.Path.{sym, _∙_}
-use lib.Seq.{set-out}
-use borrow.Author.Needs.{needs}
-use Rattle.signed.proofs.Widths.{reads-back}
+use Rattle.kit.proofs.{sym, _∙_, set-out, needs}
+use Rattle.signed.proofs.{reads-back}
 use Rattle.turning.proofs.put.Statement.{statement}
 use Rattle.turning.proofs.put.Tie as tie
 

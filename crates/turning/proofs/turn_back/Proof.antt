@@ -1,18 +1,8 @@
 -- `turn_back` makes the checks in their order, each of which refuses with nothing written, and then writes the hours
 -- of a sound table into the first n places lent. Assumes nothing.
-use mathlib.Core.Path.{_≡_, sym, _∙_}
-use mathlib.Core.Bool.{false}
-use Prim.Native.Nat.{_<_}
-use native.Mathlib.Omega.{arith}
-use lib.IntN.{pos}
-use lib.ListN.{length, getD}
-use lib.Seq.{length-take-le}
-use borrow.Author.Needs.{needs}
-use Rattle.om3.proofs.Making.{good-some}
-use Rattle.om3.proofs.Levels.{2≤P, P-even}
-use Rattle.om3.specs.Series.{badHours}
-use Rattle.om3.specs.Table.{lent}
-use Rattle.om3.specs.Refusals.{tableShort}
+use Rattle.kit.proofs.{_≡_, sym, _∙_, false, _<_, arith, pos, length, getD, length-take-le, needs}
+use Rattle.om3.proofs.{Making.good-some, Levels.2≤P, Levels.P-even}
+use Rattle.om3.specs.Document.{badHours, lent, tableShort}
 use Rattle.sizes.specs.Lent.{Enough}
 use Rattle.sizes.proofs.TableChecks.{enough}
 use Rattle.node.specs.declared.Root.{Root}

@@ -1,6 +1,5 @@
 -- `write_pair` takes the step down at a pair and writes both hours that come out. Assumes nothing.
-use mathlib.Core.Path.{sym, _∙_}
-use borrow.Author.Needs.{needs}
+use Rattle.kit.proofs.{sym, _∙_, needs}
 use Rattle.turning.proofs.write_pair.Statement.{statement}
 use Rattle.turning.proofs.write_pair.Tie as tie
 use Rattle.turning.proofs.Writing as laws

@@ -1,7 +1,5 @@
 -- `digits_at` moves on by a byte at each turn. The measure is how many bytes are left. Assumes nothing.
-use Prim.Native.Nat.{_-_}
-use lib.ListN.{length}
-use borrow.Author.Needs.{needs}
+use Rattle.kit.proofs.{_-_, length, needs}
 use Rattle.vector_lines.proofs.digits_at.Statement.{statement}
 use Rattle.vector_lines.proofs.digits_at.Tie as tie
 

@@ -1,8 +1,6 @@
 -- `no_text` is as many zeros as it says, by the law of a repeated list: counting them one by one would take long.
 -- Assumes nothing.
-use mathlib.Core.Path.{sym}
-use Prim.Native.Nat.{ℕ}
-use lib.ListN.{length-replicate}
+use Rattle.kit.proofs.{sym, ℕ, length-replicate}
 use Rattle.vector_lines.proofs.no_text.Statement.{statement}
 use Rattle.vector_lines.proofs.no_text.Tie as tie
 

@@ -1,7 +1,5 @@
 -- `print_bytes` writes one byte at each turn. The measure is how many are left. Assumes nothing.
-use Prim.Native.Nat.{_-_}
-use lib.ListN.{length}
-use borrow.Author.Needs.{needs}
+use Rattle.kit.proofs.{_-_, length, needs}
 use Rattle.vector_lines.proofs.print_bytes.Statement.{statement}
 use Rattle.vector_lines.proofs.print_bytes.Tie as tie
 

@@ -1,6 +1,5 @@
 -- `ask_record` asks the view of a record that opening takes, or hands on why it was refused. Assumes nothing.
-use mathlib.Core.Path.{sym, _∙_}
-use borrow.Author.Needs.{needs}
+use Rattle.kit.proofs.{sym, _∙_, needs}
 use Rattle.opening.proofs.Asked.{refused-asked}
 use Rattle.view.proofs.Viewed.{opened-view}
 use Rattle.view.proofs.ask_record.Statement.{statement}

@@ -1,6 +1,5 @@
 -- `view_places` opens the record and keeps its number of places. Assumes nothing.
-use mathlib.Core.Path.{sym, _∙_}
-use borrow.Author.Needs.{needs}
+use Rattle.kit.proofs.{sym, _∙_, needs}
 use Rattle.view.proofs.Viewed as laws
 use Rattle.view.proofs.view_places.Statement.{statement}
 use Rattle.view.proofs.view_places.Tie as tie

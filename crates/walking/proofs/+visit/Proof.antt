@@ -1,13 +1,9 @@
 -- `visit` narrows, and then answers what the node adds that narrowing came to, or calls itself on the two halves
 -- that it came to, the left one first; each covers fewer hours. Assumes nothing.
-use mathlib.Core.Path.{refl}
-use Prim.Native.Nat.{ℕ, _<_}
-use native.Mathlib.Omega.{arith}
+use Rattle.kit.proofs.{refl, ℕ, _<_, arith, needs}
 use borrow.Fn.Kinds.{In}
 use borrow.Fn.PlainCycle.{Measures, is, falls, and}
-use borrow.Author.Needs.{needs}
-use Rattle.walking.specs.Visiting.{VisitedFrom}
-use Rattle.walking.specs.Narrowing.{EndsAt, SplitsAt}
+use Rattle.walking.specs.{Visiting.VisitedFrom, Narrowing.EndsAt, Narrowing.SplitsAt}
 use Rattle.walking.specs.declared.Visited.{Visited}
 use Rattle.walking.proofs.Visiting as laws
 use Rattle.walking.proofs.visit.Reads as own

@@ -1,16 +1,10 @@
 -- `narrow` opens one node after the other. Wherever it has come to, a visit from there is a visit from the start
 -- (`CameTo`); the hours of the node it is at fall by half in each turn. Assumes nothing.
-use mathlib.Core.Path.{_≡_, sym, _∙_}
-use mathlib.Core.Bool.{true}
-use Prim.Native.Nat.{_+_, _*_, _^_, _≤_, _<_}
-use native.Mathlib.Omega.{arith}
-use borrow.Author.Needs.{needs}
+use Rattle.kit.proofs.{_≡_, sym, _∙_, true, _+_, _*_, _^_, _≤_, _<_, arith, needs}
 use Rattle.node.specs.declared.Halves.{Halves}
-use Rattle.walking.specs.Nodes.{openedOf}
-use Rattle.walking.specs.Visiting.{SteppedDown}
-use Rattle.walking.proofs.Lending.{steps, small-number}
+use Rattle.walking.specs.{Nodes.openedOf, Visiting.SteppedDown}
+use Rattle.walking.proofs.{Lending.steps, Lending.small-number, Narrowing.CameTo}
 use Rattle.walking.proofs.Narrowing as laws
-use Rattle.walking.proofs.Narrowing.{CameTo}
 use Rattle.walking.proofs.narrow.Statement.{statement}
 use Rattle.walking.proofs.narrow.Tie as tie
 

@@ -1,12 +1,7 @@
 -- `step` takes a pair's step at a pair, and else goes down by the details, which stand at the numbers of the halves.
 -- Assumes nothing.
-use mathlib.Core.Path.{sym, _∙_}
-use Prim.Native.Nat.{_+_, _*_, _≤_}
-use native.Mathlib.Omega.{arith}
-use lib.IntN.{pos}
-use lib.ListN.{length, getD}
-use borrow.Author.Tests.{ltb-true, ltb-false}
-use Rattle.signed.proofs.Widths.{reads-back}
+use Rattle.kit.proofs.{sym, _∙_, _+_, _*_, _≤_, arith, pos, length, getD, ltb-true, ltb-false}
+use Rattle.signed.proofs.{reads-back}
 use Rattle.walking.proofs.Stepping as laws
 use Rattle.walking.proofs.step.Statement.{statement}
 use Rattle.walking.proofs.step.Tie as tie

@@ -1,11 +1,6 @@
 -- `visit_table` examines node 0, which gives node 1 its range, and visits from node 1. Assumes nothing.
-use mathlib.Core.Path.{_≡_}
-use native.Mathlib.Omega.{arith}
-use lib.IntN.{pos}
-use lib.ListN.{getD}
-use borrow.Author.Needs.{needs}
-use Rattle.om3.proofs.Levels.{2≤P, P-even}
-use Rattle.om3.proofs.Making.{good-some}
+use Rattle.kit.proofs.{_≡_, arith, pos, getD, needs}
+use Rattle.om3.proofs.{Levels.2≤P, Levels.P-even, Making.good-some}
 use Rattle.node.specs.declared.Root.{Root}
 use Rattle.node.specs.Steps.{rootOf}
 use Rattle.examining.proofs.AtRoot.{root-read}

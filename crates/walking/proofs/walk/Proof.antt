@@ -1,15 +1,11 @@
 -- `walk` takes one half after the other. Wherever it has come to, a walk from there is a walk from the start
 -- (`CameTo`); the hours of the node it is at fall by half in each turn. Assumes nothing.
-use mathlib.Core.Path.{sym, _∙_}
-use Prim.Native.Nat.{_*_, _^_, _<_}
-use native.Mathlib.Omega.{arith}
-use borrow.Author.Needs.{needs}
-use Rattle.signed.proofs.Widths.{reads-back}
+use Rattle.kit.proofs.{sym, _∙_, _*_, _^_, _<_, arith, needs}
+use Rattle.signed.proofs.{reads-back}
 use Rattle.node.specs.declared.Halves.{Halves}
 use Rattle.walking.specs.Visiting.{SteppedDown}
-use Rattle.walking.proofs.Lending.{steps, small-number}
+use Rattle.walking.proofs.{Lending.steps, Lending.small-number, Walking.CameTo}
 use Rattle.walking.proofs.Walking as laws
-use Rattle.walking.proofs.Walking.{CameTo}
 use Rattle.walking.proofs.walk.Statement.{statement}
 use Rattle.walking.proofs.walk.Tie as tie
 

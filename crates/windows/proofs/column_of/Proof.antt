@@ -1,13 +1,8 @@
 -- `column_of` makes checks 5 and 6 in their order and then computes both edges. Assumes nothing.
-use mathlib.Core.Path.{_≡_, sym, _∙_}
-use mathlib.Core.Bool.{false, not, _&&_, _||_}
-use Prim.Native.Nat.{_+_}
-use native.Mathlib.Omega.{arith}
-use lib.Dec.{leb, ltb, eqb}
-use Rattle.words.specs.Constants.{mostColumns}
+use Rattle.kit.proofs.{_≡_, sym, _∙_, false, not, _&&_, _||_, _+_, arith, leb, ltb, eqb, needs}
+use Rattle.words.specs.{mostColumns}
 use Rattle.windows.specs.Windows.{Edged}
 use Rattle.windows.proofs.Windows as laws
-use borrow.Author.Needs.{needs}
 use Rattle.windows.proofs.column_of.Statement.{statement}
 use Rattle.windows.proofs.column_of.Tie as tie
 

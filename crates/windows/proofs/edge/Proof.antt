@@ -1,9 +1,6 @@
 -- `edge` computes the definition; the numbers are small. Assumes nothing.
-use Prim.Native.Nat.{_+_, _-_, _*_, _≤_}
-use native.Mathlib.Nat.{mul-le-mul, div-le-self}
-use native.Mathlib.Omega.{arith}
-use Rattle.words.specs.Constants.{largestHours, mostColumns}
-use borrow.Author.Needs.{needs}
+use Rattle.kit.proofs.{_+_, _-_, _*_, _≤_, mul-le-mul, div-le-self, arith, needs}
+use Rattle.words.specs.{largestHours, mostColumns}
 use Rattle.windows.proofs.edge.Statement.{statement}
 use Rattle.windows.proofs.edge.Tie as tie
 

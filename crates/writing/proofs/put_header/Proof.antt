@@ -1,8 +1,5 @@
 -- `put_header` puts one field after the other. Assumes nothing.
-use mathlib.Core.Path.{ap, _∙_}
-use native.Mathlib.Omega.{arith}
-use lib.ListN.{length}
-use borrow.Author.Needs.{needs}
+use Rattle.kit.proofs.{ap, _∙_, arith, length, needs}
 use Rattle.writing.proofs.Put as laws
 use Rattle.writing.proofs.put_header.Statement.{statement}
 use Rattle.writing.proofs.put_header.Tie as tie

@@ -1,19 +1,10 @@
 -- `write_record` makes the checks in their order, each of which refuses with nothing written, and then puts the record
 -- of a sound table. Assumes nothing.
-use mathlib.Core.Path.{_≡_, sym, _∙_}
-use mathlib.Core.Bool.{false}
-use Prim.Native.Nat.{_/_, _≤_}
-use lib.ListN.{length}
-use lib.Seq.{length-take-le}
-use borrow.Author.Needs.{needs}
-use Rattle.om3.specs.Series.{badHours}
-use Rattle.om3.specs.Table.{lent}
-use Rattle.om3.specs.Refusals.{tableShort}
-use Rattle.om3.specs.Record.{recordSize}
+use Rattle.kit.proofs.{_≡_, sym, _∙_, false, _/_, _≤_, length, length-take-le, needs}
+use Rattle.om3.specs.Document.{badHours, lent, tableShort, recordSize}
 use Rattle.sizes.specs.Lent.{Enough}
 use Rattle.sizes.proofs.TableChecks.{enough}
-use Rattle.om3.proofs.Making.{good-some}
-use Rattle.om3.proofs.Levels.{P-most}
+use Rattle.om3.proofs.{Making.good-some, Levels.P-most}
 use Rattle.writing.proofs.Written as laws
 use Rattle.writing.proofs.write_record.Statement.{statement}
 use Rattle.writing.proofs.write_record.Tie as tie

@@ -1,6 +1,5 @@
 -- `is_inside` makes the two tests of the definition. Assumes nothing.
-use borrow.Author.Tests.{le-leb, lt-leb}
-use borrow.Author.Needs.{needs}
+use Rattle.kit.proofs.{le-leb, lt-leb, needs}
 use Rattle.walking.proofs.nodes.is_inside.Statement.{statement}
 use Rattle.walking.proofs.nodes.is_inside.Tie as tie
 

@@ -1,6 +1,5 @@
 -- `is_opened` makes the tests of the definition in its order. Assumes nothing.
-use mathlib.Core.Path.{sym, _∙_}
-use borrow.Author.Needs.{needs}
+use Rattle.kit.proofs.{sym, _∙_, needs}
 use Rattle.walking.proofs.nodes.is_opened.Statement.{statement}
 use Rattle.walking.proofs.nodes.is_opened.Tie as tie
 

@@ -1,6 +1,5 @@
 -- `touches` goes by the cases of the range and makes the two tests of the definition. Assumes nothing.
-use borrow.Author.Tests.{lt-ltb, le-ltb}
-use borrow.Author.Needs.{needs}
+use Rattle.kit.proofs.{lt-ltb, le-ltb, needs}
 use Rattle.walking.proofs.nodes.touches.Statement.{statement}
 use Rattle.walking.proofs.nodes.touches.Tie as tie
 

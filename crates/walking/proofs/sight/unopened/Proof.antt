@@ -1,6 +1,5 @@
 -- `unopened` goes by whether the node touches the column and lies inside it. Assumes nothing.
-use mathlib.Core.Path.{sym, _∙_}
-use borrow.Author.Needs.{needs}
+use Rattle.kit.proofs.{sym, _∙_, needs}
 use Rattle.walking.proofs.sight.unopened.Statement.{statement}
 use Rattle.walking.proofs.sight.unopened.Tie as tie
 

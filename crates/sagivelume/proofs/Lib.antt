@@ -1,2 +1,0 @@
--- What the boundary's proofs rest on.
-pub mod Handing
