@@ -5,3 +5,4 @@ pub mod Stopping
 pub mod Finishing
 pub mod Founding
 pub mod Calls
+pub mod Clauses

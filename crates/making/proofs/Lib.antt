@@ -4,3 +4,4 @@ pub mod Readings
 pub mod Details
 pub mod Codes
 pub mod Answers
+pub mod Clauses

@@ -6,3 +6,4 @@ pub mod Drawing
 pub mod Choosing
 pub mod Held
 pub mod Whole
+pub mod Clauses

@@ -2,3 +2,4 @@
 pub mod Writing
 pub mod AllWritten
 pub mod TurningBack
+pub mod Clauses

@@ -1,2 +1,3 @@
 -- What a view holds, and what it answers.
 pub mod Viewed
+pub mod Clauses

@@ -1,2 +1,3 @@
 -- What the proofs of the windows rest on.
 pub mod Windows
+pub mod Clauses

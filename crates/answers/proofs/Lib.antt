@@ -1,0 +1,2 @@
+-- What joining asks and promises.
+pub mod Clauses

@@ -1,0 +1,2 @@
+-- What the calls of the boundary ask and promise.
+pub mod Clauses
