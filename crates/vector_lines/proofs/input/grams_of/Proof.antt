@@ -1,0 +1,16 @@
+-- `grams_of` casts a size that a test has shown to fit; minus that size fits too. Assumes nothing.
+use native.Mathlib.Omega.{arith}
+use mir.Syntax.{w32}
+use mir.Facts.{toZ-pos}
+use Rattle.signed.proofs.Rules.{signed}
+use borrow.Author.Needs.{needs}
+use Rattle.vector_lines.proofs.input.grams_of.Statement.{statement}
+use Rattle.vector_lines.proofs.input.grams_of.Tie as tie
+
+sub-result : tie.Need-sub-result
+sub-result c = omega (signed, toZ-pos w32 {n = c .before .before .args .x .size} (omega arith))
+
+pub grams-of-spec : {M : Type 1} → statement M
+grams-of-spec =
+    tie.close
+    (tie.spec (λ c. search needs) (λ c. search needs) sub-result (λ c. search needs) (λ c. search needs))
