@@ -8,6 +8,9 @@ use second::{print, stopped, turn_back, Column, Shape};
 /// The programs that read them have room for so many bytes each, and half of it stays for calls to come.
 const MOST_BYTES: usize = 2_097_152 / 2;
 
+/// All files together have fewer bytes.
+const STORED: usize = 2_000_000;
+
 fn stored(program: &str, name: &str) -> Vec<u8> {
     let path = format!("{}/../../crates/{program}/{name}", env!("CARGO_MANIFEST_DIR"));
     std::fs::read(&path).unwrap_or_else(|error| panic!("{path}: {error}"))
@@ -15,12 +18,15 @@ fn stored(program: &str, name: &str) -> Vec<u8> {
 
 #[test]
 fn the_stored_files_are_those_written() {
+    let mut bytes = 0;
     for files in written() {
         let program = files.program;
         assert!(files.input == stored(program, "stdin"), "{program}: write them again with `second vectors`");
         assert!(files.output == stored(program, "stdout"), "{program}: write them again with `second vectors`");
         assert!(files.input.len() <= MOST_BYTES, "{program}");
+        bytes += files.input.len() + files.output.len();
     }
+    assert!(bytes < STORED, "{bytes}");
 }
 
 /// Each call with the refusals that it has, and how many calls have each of its outcomes at least.
@@ -263,16 +269,16 @@ fn the_inputs_of_the_printer_come_in_pieces() {
 fn the_inputs_of_the_printer_reach_the_bounds() {
     let inputs = printer::inputs();
     let printed: Vec<String> = inputs.iter().map(|input| String::from_utf8(print(input)).unwrap()).collect();
-    assert!(printed.iter().filter(|text| text.lines().count() == 4_097).count() >= 3);
+    assert!(printed.iter().filter(|text| text.lines().count() == 4_097).count() >= 2);
     let refused: BTreeSet<&str> = printed.iter().map(|text| text.trim_end()).collect();
-    for text in ["refused 12 at 1", "refused 12 at 16386", "refused 12 at 16392", "refused 12 at 65538"] {
+    for text in ["refused 12 at 1", "refused 12 at 16386", "refused 12 at 65538"] {
         assert!(refused.contains(text), "{text}");
     }
     assert!(refused.contains("refused 2 at 16383") && refused.contains("refused 2 at 0"));
     let lines = |input: &Vec<u8>| input.split(|&byte| byte == b'\n').map(<[u8]>::len).collect::<Vec<_>>();
     let of_first: BTreeSet<usize> = inputs.iter().map(|input| lines(input)[0]).collect();
     let of_hours: BTreeSet<usize> = inputs.iter().flat_map(|input| lines(input).split_off(1)).collect();
-    for length in (0..=9).chain(16..=20).chain([5_000]) {
+    for length in (0..=9).chain(16..=20).chain([1_000]) {
         assert!(of_hours.contains(&length), "{length}");
         assert!(of_first.contains(&length), "{length}");
     }
