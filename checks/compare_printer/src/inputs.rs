@@ -130,6 +130,8 @@ fn too_long(random: &mut Random) -> Vec<Vec<u8>> {
         format!("0 1 1\n{hours}--\n5\n"),
         format!("0 1 1\n{hours}{hours}--"),
         format!("0 1 1\n2000003\n{hours}\n"),
+        // Seven hours more than a count of 16 bits holds.
+        format!("0 7 3\n{}", "5\n".repeat(65_536 + 7)),
         long("0"),
         format!("0 1 1\n5\n{}\n", long("5")),
         format!("0 1 1\n-{}\n5\nx\n", long("0")),

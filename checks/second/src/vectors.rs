@@ -1,14 +1,16 @@
 //! The vectors: calls with chosen contents and this program's answers to them, in plain numbers that a small program
-//! can read. `crates/vectors` runs those of tables, `crates/record_vectors` those of records, and
-//! `crates/column_vectors` those of columns. `crates/printer_vectors` runs the printer on inputs, which stand as they
-//! are.
+//! can read. `crates/vectors` runs those of tables, of records and of columns. `crates/printer_vectors` runs the
+//! printer on inputs, which stand as they are.
 //!
-//! A call is the number of what is called, the numbers it takes, and its buffers, each its length and then its content.
-//! The answer is the number of the refusal, 0 if the call is taken, its place, the fields of the answer, each 0 on a
-//! refusal, and the whole content of each buffer that the call writes. Each call, each answer and each buffer begins a
-//! line; a line has at most eight numbers, one space apart. No number has more than thirteen digits.
+//! A call is its kind, the numbers it takes, and its buffers, each its length and then its content. The kinds are
+//! numbered through: those of tables from 1 on, of records from 4 on, of columns from 8 on, and 13 opens a record and
+//! asks it. The answer is the number of the refusal, 0 if the call is taken, its place, the fields of the answer, each
+//! 0 on a refusal, and the whole content of each buffer that the call writes. In a buffer `7*5` stands for 7 five
+//! times; a number that comes once stands alone. Each call, each answer and each buffer begins a line; a line has at
+//! most eight numbers, repeated ones counted once, one space apart. No number has more than thirteen digits.
 
 use std::collections::BTreeMap;
+use std::fmt::Display;
 
 use crate::refusal::Refusal;
 
@@ -22,7 +24,7 @@ pub mod columns;
 
 pub mod printer;
 
-/// The greatest number that the programs read.
+/// The greatest number that the program reads.
 pub const GREATEST_NUMBER: u64 = 9_999_999_999_999;
 
 /// A call with what its buffers hold before.
@@ -47,34 +49,39 @@ pub struct Written {
 }
 
 impl Written {
-    fn of(program: &'static str, calls: Vec<impl Vector>) -> Written {
-        let (mut input, mut output, mut outcomes) = (Vec::new(), Vec::new(), BTreeMap::new());
+    fn of(program: &'static str) -> Written {
+        Written { program, input: Vec::new(), output: Vec::new(), outcomes: BTreeMap::new() }
+    }
+
+    /// With these calls at its end.
+    fn with(mut self, calls: Vec<impl Vector>) -> Written {
         for call in calls {
-            input.extend(call.lines());
+            self.input.extend(call.lines());
             let (outcome, answer) = call.answer();
-            output.extend(answer);
-            *outcomes.entry(outcome).or_insert(0) += 1;
+            self.output.extend(answer);
+            *self.outcomes.entry(outcome).or_insert(0) += 1;
         }
-        Written { program, input, output, outcomes }
+        self
     }
 }
 
 /// The vectors of each program.
-pub fn written() -> [Written; 4] {
-    [
-        Written::of("vectors", tables::calls()),
-        Written::of("record_vectors", records::calls()),
-        Written::of("column_vectors", columns::calls()),
-        Written::of("printer_vectors", printer::calls()),
-    ]
+pub fn written() -> [Written; 2] {
+    let calls = Written::of("vectors").with(tables::calls()).with(records::calls()).with(columns::calls());
+    [calls, Written::of("printer_vectors").with(printer::calls())]
+}
+
+/// Numbers that stand one by one: what is called and what it takes, or what is answered.
+fn numbers(numbers: &[i64]) -> Vec<String> {
+    numbers.iter().map(i64::to_string).collect()
 }
 
 /// The numbers with which an answer begins: number and place of the refusal, and so many fields.
-fn head(answered: &Result<Vec<i64>, Refusal>, fields: usize) -> Vec<i64> {
-    match answered {
+fn head(answered: &Result<Vec<i64>, Refusal>, fields: usize) -> Vec<String> {
+    numbers(&match answered {
         Ok(told) => [vec![0, 0], told.clone()].concat(),
         Err(refusal) => [vec![i64::from(refusal.number), refusal.place as i64], vec![0; fields]].concat(),
-    }
+    })
 }
 
 /// A call's name and what happened to it.
@@ -85,30 +92,31 @@ fn outcome<T>(name: &str, answered: &Result<T, Refusal>) -> String {
     }
 }
 
-/// What a buffer holds.
-fn content<T: Copy + Into<i64>>(buffer: &[T]) -> Vec<i64> {
-    buffer.iter().map(|&number| number.into()).collect()
+/// What a buffer holds, a repeated number once.
+fn content<T: Copy + PartialEq + Display>(buffer: &[T]) -> Vec<String> {
+    let run = |run: &[T]| if run.len() == 1 { run[0].to_string() } else { format!("{}*{}", run[0], run.len()) };
+    buffer.chunk_by(T::eq).map(run).collect()
 }
 
 /// The length of a buffer, and what it holds.
-fn lent<T: Copy + Into<i64>>(buffer: &[T]) -> Vec<i64> {
-    [vec![buffer.len() as i64], content(buffer)].concat()
+fn lent<T: Copy + PartialEq + Display>(buffer: &[T]) -> Vec<String> {
+    [vec![buffer.len().to_string()], content(buffer)].concat()
 }
 
 /// Each part begins a line; eight numbers to a line.
-fn lines(parts: &[Vec<i64>]) -> Vec<u8> {
-    let numbers = |row: &[i64]| row.iter().map(i64::to_string).collect::<Vec<_>>().join(" ") + "\n";
-    parts.iter().flat_map(|part| part.chunks(8)).map(numbers).collect::<String>().into_bytes()
+fn lines(parts: &[Vec<String>]) -> Vec<u8> {
+    let line = |row: &[String]| row.join(" ") + "\n";
+    parts.iter().flat_map(|part| part.chunks(8)).map(line).collect::<String>().into_bytes()
 }
 
-/// What lent buffers hold before: another number at each place, or the same in long ones.
+/// What lent buffers hold before: a number that no call writes.
 fn before(length: usize) -> Vec<i32> {
-    (0..length as i32).map(|k| if length > 100 { 7 } else { -100 - k }).collect()
+    vec![9_999_999; length]
 }
 
-/// The same of codes and records.
+/// The same of codes, and of records, where a call may write any byte.
 fn bytes_before(length: usize) -> Vec<u8> {
-    (0..length).map(|k| if length > 100 { 7 } else { 100 + k as u8 }).collect()
+    vec![99; length]
 }
 
 /// Whether a set of causes of a refusal, each a bit, has this one.

@@ -188,13 +188,13 @@ mod tests {
         }
     }
 
-    /// A call of the boundary that is left out here, or in the programs of the gate, does not go unnoticed.
+    /// A call of the boundary that is left out here, or in the program of the vectors, does not go unnoticed.
     #[test]
     fn every_call_of_the_boundary_is_compared() {
-        let programs = [
-            include_str!("../../../../crates/vectors/src/main.rt"),
-            include_str!("../../../../crates/record_vectors/src/main.rt"),
-            include_str!("../../../../crates/column_vectors/src/main.rt"),
+        let program = [
+            include_str!("../../../../crates/vectors/src/table_calls.rt"),
+            include_str!("../../../../crates/vectors/src/record_calls.rt"),
+            include_str!("../../../../crates/vectors/src/column_calls.rt"),
         ];
         let boundary = include_str!("../../../../crates/sagivelume/src/lib.rt");
         let mut exported = 0;
@@ -202,7 +202,7 @@ mod tests {
             let (name, _) = after.split_once('(').expect("parameters");
             assert!(CALLED.contains(&name), "no kind calls {name}");
             let call = format!("sagivelume::{name}(");
-            assert!(programs.iter().any(|program| program.contains(&call)), "no vectors call {name}");
+            assert!(program.iter().any(|file| file.contains(&call)), "no vectors call {name}");
             exported += 1;
         }
         let mut called = CALLED.to_vec();

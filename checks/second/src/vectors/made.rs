@@ -17,6 +17,18 @@ pub(super) fn mixed(random: &mut Random, n: usize) -> Vec<i32> {
     (0..n).map(|_| if random.once_in(4) { GAP } else { random.between(-greatest, greatest) }).collect()
 }
 
+/// A long series of any readings and gaps, in which an hour mostly holds what the one before it held, so that its table
+/// and its record are short as text: stretches of one to three hours come as often as long ones.
+pub(super) fn held(random: &mut Random, n: usize, greatest: i32) -> Vec<i32> {
+    let mut hours = Vec::new();
+    while hours.len() < n {
+        let hour = if random.once_in(6) { GAP } else { random.between(-greatest, greatest) };
+        let stretch = random.one_of(&[1, 1, 2, 3, 40, 200]);
+        hours.resize(n.min(hours.len() + stretch), hour);
+    }
+    hours
+}
+
 /// A series with its table, which may be damaged.
 #[derive(Clone)]
 pub(super) struct Made {

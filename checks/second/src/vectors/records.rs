@@ -3,7 +3,7 @@
 mod call;
 mod kept;
 
-use super::made::{mixed, Made, SEVEN_HOURS};
+use super::made::{held, mixed, Made, SEVEN_HOURS};
 use super::GREATEST_NUMBER;
 use crate::hours::{GAP, GREATEST_READING};
 use crate::random::Random;
@@ -124,7 +124,7 @@ fn every_p(random: &mut Random) -> Vec<Call> {
     let mut calls = Vec::new();
     for l in 1..=14 {
         let n = if l % 2 == 0 { 1 << l } else { (1 << l) - 1 };
-        let kept = Kept::of(&Made::of(&falling(random, n)));
+        let kept = Kept::of(&Made::of(&held(random, n, GREATEST_READING)));
         if l != 11 && l != 13 {
             calls.push(kept.written(kept.record.len()));
         }
@@ -139,18 +139,4 @@ fn every_p(random: &mut Random) -> Vec<Call> {
         }
     }
     calls
-}
-
-/// A series that mostly falls by a gram or by none, so that its record is short as text, with gaps among it.
-fn falling(random: &mut Random, n: usize) -> Vec<i32> {
-    let mut grams = 10_000;
-    let mut hour = || {
-        grams += if random.once_in(40) { 3 } else { -random.between(0, 1) };
-        if random.once_in(40) {
-            GAP
-        } else {
-            grams
-        }
-    };
-    (0..n).map(|_| hour()).collect()
 }

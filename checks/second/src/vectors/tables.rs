@@ -2,7 +2,7 @@
 
 mod call;
 
-use super::made::{mixed, Made, NO_READINGS, SEVEN_HOURS};
+use super::made::{held, mixed, Made, NO_READINGS, SEVEN_HOURS};
 use super::GREATEST_NUMBER;
 use crate::hours::{Shape, GAP, GREATEST_READING};
 use crate::random::Random;
@@ -68,8 +68,8 @@ fn bad_lengths() -> Vec<Call> {
 /// The longest series: 16,384 hours of any readings, and few grams in 16,383 hours and in 16,384, the latter told to be
 /// one hour shorter, so that the last reading comes out past n.
 fn long(random: &mut Random) -> Vec<Call> {
-    let any = Made::of(&mixed(random, 16_384));
-    let few: Vec<i32> = (0..16_384).map(|_| random.between(0, 9)).collect();
+    let any = Made::of(&held(random, 16_384, GREATEST_READING));
+    let few = [held(random, 16_383, 9), vec![5]].concat();
     let odd = Made::of(&few[1..]);
     [any.exact(), odd.exact(), vec![Made::of(&few).told(16_383).turned_back()]].concat()
 }

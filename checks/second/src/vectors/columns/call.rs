@@ -1,8 +1,8 @@
 //! A call on a column as text, and its answer.
 //!
-//! `1 n a b w k` is the edges of a column, `2 n a b w k d coefficients codes` its answer at a depth,
-//! `3 n a b w k coefficients codes` its finished answer, `4 left right` joins two answers, `5 n day coefficients codes`
-//! is the change of a day.
+//! `8 n a b w k` is the edges of a column, `9 n a b w k d coefficients codes` its answer at a depth,
+//! `10 n a b w k coefficients codes` its finished answer, `11 left right` joins two answers,
+//! `12 n day coefficients codes` is the change of a day.
 //!
 //! An answer without its count is found, which is 0 for "no reading", the hours of the first reading and of the last,
 //! their grams, low and high; it begins a line. Without a reading the others are 0 in what is answered and anything in
@@ -14,7 +14,7 @@ use crate::finished::{day_change, finished, join, Answer, Finished, Found, Readi
 use crate::hours::{LowHigh, GAP};
 use crate::refusal::Refusal;
 use crate::vectors::made::Made;
-use crate::vectors::{head, lent, lines, outcome, Vector};
+use crate::vectors::{head, lent, lines, numbers, outcome, Vector};
 
 /// A lent table, told to be of n hours.
 #[derive(Clone, Debug)]
@@ -29,7 +29,7 @@ pub struct Table {
 
 impl Table {
     /// Both buffers as parts of a call.
-    fn parts(&self) -> [Vec<i64>; 2] {
+    fn parts(&self) -> [Vec<String>; 2] {
         [lent(&self.coefficients), lent(&self.codes)]
     }
 }
@@ -55,10 +55,10 @@ impl Told {
         (self.found != 0).then_some(self.fields)
     }
 
-    fn numbers(self) -> Vec<i64> {
+    fn numbers(self) -> Vec<String> {
         let Found { first, last, low, high } = self.fields;
         let hours = [self.found, first.hour, last.hour].map(|number| number as i64);
-        [hours.to_vec(), [first.grams, last.grams, low, high].map(i64::from).to_vec()].concat()
+        numbers(&[&hours[..], &[first.grams, last.grams, low, high].map(i64::from)].concat())
     }
 }
 
@@ -113,27 +113,27 @@ pub enum Call {
 }
 
 /// What a call is, n, and the numbers of a column.
-fn numbers(call: i64, n: u64, Column { a, b, w, k }: Column) -> Vec<i64> {
-    [vec![call], [n, a, b, w, k].map(|number| number as i64).to_vec()].concat()
+fn asking(kind: u64, n: u64, Column { a, b, w, k }: Column) -> Vec<String> {
+    numbers(&[kind, n, a, b, w, k].map(|number| number as i64))
 }
 
 impl Vector for Call {
     fn lines(&self) -> Vec<u8> {
         match self {
-            Call::Edges { n, column } => lines(&[numbers(1, *n, *column)]),
+            Call::Edges { n, column } => lines(&[asking(8, *n, *column)]),
             Call::Stopped { table, column, depth } => {
                 let [coefficients, codes] = table.parts();
-                let head = [numbers(2, table.n, *column), vec![*depth as i64]].concat();
+                let head = [asking(9, table.n, *column), numbers(&[*depth as i64])].concat();
                 lines(&[head, coefficients, codes])
             }
             Call::Finished { table, column } => {
                 let [coefficients, codes] = table.parts();
-                lines(&[numbers(3, table.n, *column), coefficients, codes])
+                lines(&[asking(10, table.n, *column), coefficients, codes])
             }
-            Call::Join { left, right } => lines(&[vec![4], left.numbers(), right.numbers()]),
+            Call::Join { left, right } => lines(&[numbers(&[11]), left.numbers(), right.numbers()]),
             Call::DayChange { table, day } => {
                 let [coefficients, codes] = table.parts();
-                lines(&[vec![5, table.n as i64, *day as i64], coefficients, codes])
+                lines(&[numbers(&[12, table.n as i64, *day as i64]), coefficients, codes])
             }
         }
     }
@@ -174,7 +174,7 @@ fn ranges(Stopped { outer, inner, count }: Stopped) -> Vec<i64> {
 }
 
 /// The refusal and the count, and the answer on a line of its own.
-fn finishing(answered: Result<Finished, Refusal>) -> [Vec<i64>; 2] {
+fn finishing(answered: Result<Finished, Refusal>) -> [Vec<String>; 2] {
     let answer = answered.map_or(None, |finished| finished.answer);
     [head(&answered.map(|finished| vec![finished.count as i64]), 1), Told::from(answer).numbers()]
 }

@@ -4,14 +4,14 @@ use crate::hours::MOST_HOURS;
 
 /// Lines that are far too long, and ones that would be good if bytes of them were lost.
 pub(super) fn long_lines() -> Vec<Vec<u8>> {
-    let digits = "5".repeat(5_000);
+    let digits = "5".repeat(1_000);
     let zeros = "0".repeat(256);
     let spaces = " ".repeat(300);
     let inputs = [
         format!("{digits}\n5\n"),
         format!("0 1 1\n{digits}\n"),
         format!("0 1 1\n5\n-{digits}"),
-        format!("0 1 1\n5\n{}\n--\n", "-".repeat(5_000)),
+        format!("0 1 1\n5\n{}\n--\n", "-".repeat(1_000)),
         format!("0 1 1\n--\n{digits}\n"),
         format!("0 1 1{spaces}\n5\n"),
         format!("{spaces}0 1 1\n5\n"),
@@ -30,19 +30,18 @@ pub(super) fn long_lines() -> Vec<Vec<u8>> {
 pub(super) fn long_series() -> Vec<Vec<u8>> {
     let most = MOST_HOURS as usize;
     let (fives, good) = ("5\n".repeat(most), digits_and_gaps(most));
-    let widest: String = (0..most).map(|hour| if hour % 7 == 3 { "1000000\n" } else { "-1000000\n" }).collect();
+    let widest: String = (0..1_024).map(|hour| if hour % 7 == 3 { "1000000\n" } else { "-1000000\n" }).collect();
     let inputs = [
         format!("0 16384 4096\n{good}"),
-        format!("1 16384 4095\n{}", good.trim_end()),
-        format!("0 16384 4096\n{widest}"),
+        format!("1 16384 99\n{}", good.trim_end()),
+        // More bytes are printed than a count of 16 bits holds.
+        format!("0 1024 4096\n{widest}"),
         format!("16383 16384 1\n{good}"),
         format!("0 16385 1\n{good}5"),
         format!("0 1 1\n{fives}\n"),
         format!("0 1 1\n{}1000001\n", &fives[2..]),
         format!("3 3 0\n2000003\n{fives}"),
-        format!("0 1 1\n{fives}{}--\n5\n", "5\n".repeat(6)),
-        // One more than a count of 16 bits holds: of hours, and of lines.
-        format!("0 7 3\n{}", "5\n".repeat(65_536 + 7)),
+        // One line more than a count of 16 bits holds.
         format!("0 1 1\n{}--\n5\n", "-\n".repeat(65_536)),
         format!("0 5000 3\n{}8\n{}", "-\n".repeat(2_500), "-\n".repeat(2_499)),
         format!("17 4097 9\n{}", digits_and_gaps(4_097)),

@@ -7,7 +7,7 @@ use crate::level::level;
 use crate::refusal::Refusal;
 use crate::sound::turn_back;
 use crate::table::make;
-use crate::vectors::{before, bytes_before, content, head, lent, lines, outcome, Vector};
+use crate::vectors::{before, bytes_before, content, head, lent, lines, numbers, outcome, Vector};
 
 /// A call, with what its buffers hold before.
 #[derive(Clone, Debug)]
@@ -49,12 +49,12 @@ impl Vector for Call {
     fn lines(&self) -> Vec<u8> {
         match self {
             Call::Make { n, readings, coefficients, codes } => {
-                lines(&[vec![1, *n as i64], lent(readings), lent(coefficients), lent(codes)])
+                lines(&[numbers(&[1, *n as i64]), lent(readings), lent(coefficients), lent(codes)])
             }
             Call::TurnBack { n, coefficients, codes, hours } => {
-                lines(&[vec![2, *n as i64], lent(coefficients), lent(codes), lent(hours)])
+                lines(&[numbers(&[2, *n as i64]), lent(coefficients), lent(codes), lent(hours)])
             }
-            Call::Level { n, j, coefficients } => lines(&[vec![3, *n as i64, *j as i64], lent(coefficients)]),
+            Call::Level { n, j, coefficients } => lines(&[numbers(&[3, *n as i64, *j as i64]), lent(coefficients)]),
         }
     }
 
@@ -72,14 +72,14 @@ impl Vector for Call {
             Call::Level { n, j, coefficients } => {
                 let stretch = level(n, j, &coefficients);
                 let found = if stretch.length == 0 { "level of length 0" } else { "level found" };
-                (String::from(found), lines(&[vec![stretch.start as i64, stretch.length as i64]]))
+                (String::from(found), lines(&[numbers(&[stretch.start as i64, stretch.length as i64])]))
             }
         }
     }
 }
 
 /// The answer of a call that tells nothing but its refusal.
-fn taking(answered: &Result<(), Refusal>) -> Vec<i64> {
+fn taking(answered: &Result<(), Refusal>) -> Vec<String> {
     head(&answered.map(|()| Vec::new()), 0)
 }
 

@@ -1,8 +1,8 @@
 -- `grams_of` casts a size that a test has shown to fit; minus that size fits too. Assumes nothing.
 use Rattle.kit.proofs.{arith, w32, toZ-pos, needs}
-use Rattle.vector_lines.proofs.grams_of.Statement.{statement}
-use Rattle.vector_lines.proofs.grams_of.Tie as tie
 use Rattle.signed.proofs.{signed}
+use Rattle.vector_lines.proofs.input.grams_of.Statement.{statement}
+use Rattle.vector_lines.proofs.input.grams_of.Tie as tie
 
 sub-result : tie.Need-sub-result
 sub-result c = omega (signed, toZ-pos w32 {n = c .before .before .args .x .size} (omega arith))

@@ -1,24 +1,16 @@
-// Answers the calls on columns that stand on standard input, and writes what each answers: the vectors of the second
-// program, which also wrote what is to come out.
+// Columns and days, drawn from a table; two answers joined.
 //
-// A call is the number of what is called, the numbers that it takes, and its buffers, each its length and then its
-// content. All are calls of the boundary.
-//
-//     1 n a b w k                          the edges of a column
-//     2 n a b w k d coefficients codes     a column stopped at depth d
-//     3 n a b w k coefficients codes       a finished column
-//     4 left right                         joining two answers
-//     5 n day coefficients codes           the change of a day
+//     8 n a b w k                          the edges of a column
+//     9 n a b w k d coefficients codes     a column stopped at depth d
+//     10 n a b w k coefficients codes      a finished column
+//     11 left right                        joining two answers
+//     12 n day coefficients codes          the change of a day
 //
 // An answer is found, which is 0 without a reading, the hours of the first reading and of the last, their grams, low
 // and high.
 //
-// What is written is the number of the refusal, 0 if the call was taken, its place, and what the call tells: the
-// column's first hour and the hour after its last; both ranges and the count; the count, and in a line of its own the
-// answer; found and the grams. Joining tells the answer alone.
-//
-// What the calls answer is stated and proved where they stand. As in `vector_lines`, which reads and writes the
-// numbers, the contracts here say no more than safety needs.
+// They tell the column's first hour and the hour after its last; both ranges and the count; the count, and in a line of
+// its own the answer; found and the grams. Joining has no refusal and tells the answer alone.
 use told::columns::ToldAnswer;
 
 // A column of the input: the hours of the series, the window, its columns and the number of this one; and where the
@@ -145,7 +137,7 @@ fn show_day_change(n: usize, coefficients: &[i32], codes: &[u8], day: usize) {
 }
 
 // A call for a column's edges, whose n begins at `at`. Tells where the next call begins.
-fn answer_edges(text: &[u8], at: usize) -> usize {
+pub fn answer_edges(text: &[u8], at: usize) -> usize {
     let asked = column_at(text, at);
     let next = asked.next;
     show_edges(asked);
@@ -153,7 +145,7 @@ fn answer_edges(text: &[u8], at: usize) -> usize {
 }
 
 // A call of stopping a column, whose n begins at `at`. Tells where the next call begins.
-fn answer_stopped(text: &[u8], at: usize) -> usize {
+pub fn answer_stopped(text: &[u8], at: usize) -> usize {
     let asked = column_at(text, at);
     let deep = vector_lines::number_at(text, asked.next);
     let depth = deep.size as usize;
@@ -168,7 +160,7 @@ fn answer_stopped(text: &[u8], at: usize) -> usize {
 }
 
 // A call of finishing a column, whose n begins at `at`. Tells where the next call begins.
-fn answer_finished(text: &[u8], at: usize) -> usize {
+pub fn answer_finished(text: &[u8], at: usize) -> usize {
     let asked = column_at(text, at);
     let mut coefficients = vector_lines::no_grams();
     let first = vector_lines::lend_grams(text, asked.next, &mut coefficients);
@@ -181,7 +173,7 @@ fn answer_finished(text: &[u8], at: usize) -> usize {
 }
 
 // A call of joining, whose left answer begins at `at`. Tells where the next call begins.
-fn answer_join(text: &[u8], at: usize) -> usize {
+pub fn answer_join(text: &[u8], at: usize) -> usize {
     let first = answer_at(text, at);
     let second = answer_at(text, first.next);
     let next = second.next;
@@ -192,7 +184,7 @@ fn answer_join(text: &[u8], at: usize) -> usize {
 }
 
 // A call for the change of a day, whose n begins at `at`. Tells where the next call begins.
-fn answer_day_change(text: &[u8], at: usize) -> usize {
+pub fn answer_day_change(text: &[u8], at: usize) -> usize {
     let hours = vector_lines::number_at(text, at);
     let asked = vector_lines::number_at(text, hours.next);
     let n = hours.size as usize;
@@ -205,45 +197,4 @@ fn answer_day_change(text: &[u8], at: usize) -> usize {
     let k = second.length;
     show_day_change(n, &coefficients[..c], &codes[..k], day);
     second.next
-}
-
-// Answers the call that begins at `at`, and tells where the next one begins. A number that begins no call is passed
-// over.
-fn answer(text: &[u8], at: usize) -> usize {
-    let call = vector_lines::number_at(text, at);
-    let what = call.size;
-    if what == 1 {
-        return answer_edges(text, call.next);
-    }
-    if what == 2 {
-        return answer_stopped(text, call.next);
-    }
-    if what == 3 {
-        return answer_finished(text, call.next);
-    }
-    if what == 4 {
-        return answer_join(text, call.next);
-    }
-    if what == 5 {
-        return answer_day_change(text, call.next);
-    }
-    call.next
-}
-
-// Answers one call after the other, as long as there is more.
-fn answer_all(text: &[u8]) {
-    let mut at = 0;
-    while at < text.len() {
-        let next = answer(text, at);
-        if next <= at {
-            return;
-        }
-        at = next;
-    }
-}
-
-fn main() {
-    let mut text = vector_lines::no_text();
-    let n = io::read_full(0, &mut text);
-    answer_all(&text[..n]);
 }

@@ -1,21 +1,12 @@
-// Writes, reads, opens and asks the records of the calls on standard input, and writes what each answers: the vectors
-// of the second program, which also wrote what is to come out.
+// Records: written, read, opened and asked. The last is a call of the view, which opens and asks at once.
 //
-// A call is the number of what is called, the numbers that it takes, and its buffers, each its length and then its
-// content. The first four are calls of the boundary.
+//     4 n coefficients codes record        writing
+//     5 record coefficients codes          reading
+//     6 record                             opening
+//     7 places place record                asking an opened record, which has so many places
+//     13 place record                      opening and asking
 //
-//     1 n coefficients codes record        writing
-//     2 record coefficients codes          reading
-//     3 record                             opening
-//     4 places place record                asking an opened record, which has so many places
-//     5 place record                       opening and asking
-//
-// The answer is the number of the refusal, 0 if the call was taken, its place, and what the call tells: how many bytes
-// were written, the hours read, the hours and the places opened, the coefficient. Then comes the whole content of each
-// buffer that was lent to be written.
-//
-// What the calls answer is stated and proved where they stand. As in `vector_lines`, which reads and writes the
-// numbers, the contracts here say no more than safety needs.
+// They tell how many bytes were written, the hours read, the hours and the places opened, the coefficient.
 use words::Asking;
 
 // Writes a record and writes the answer.
@@ -71,7 +62,7 @@ fn show_ask_record(bytes: &[u8], place: usize) {
 }
 
 // A call of writing, whose n begins at `at`. Tells where the next call begins.
-fn answer_write(text: &[u8], at: usize) -> usize {
+pub fn answer_write(text: &[u8], at: usize) -> usize {
     let hours = vector_lines::number_at(text, at);
     let n = hours.size as usize;
     let mut coefficients = vector_lines::no_grams();
@@ -88,7 +79,7 @@ fn answer_write(text: &[u8], at: usize) -> usize {
 }
 
 // A call of reading, whose record begins at `at`. Tells where the next call begins.
-fn answer_read(text: &[u8], at: usize) -> usize {
+pub fn answer_read(text: &[u8], at: usize) -> usize {
     let mut bytes = vector_lines::no_record();
     let first = vector_lines::lend_bytes(text, at, &mut bytes);
     let b = first.length;
@@ -103,7 +94,7 @@ fn answer_read(text: &[u8], at: usize) -> usize {
 }
 
 // A call of opening, whose record begins at `at`. Tells where the next call begins.
-fn answer_open(text: &[u8], at: usize) -> usize {
+pub fn answer_open(text: &[u8], at: usize) -> usize {
     let mut bytes = vector_lines::no_record();
     let only = vector_lines::lend_bytes(text, at, &mut bytes);
     let b = only.length;
@@ -112,7 +103,7 @@ fn answer_open(text: &[u8], at: usize) -> usize {
 }
 
 // A call of asking an opened record, whose places begin at `at`. Tells where the next call begins.
-fn answer_ask(text: &[u8], at: usize) -> usize {
+pub fn answer_ask(text: &[u8], at: usize) -> usize {
     let has = vector_lines::number_at(text, at);
     let asked = vector_lines::number_at(text, has.next);
     let places = has.size as usize;
@@ -125,7 +116,7 @@ fn answer_ask(text: &[u8], at: usize) -> usize {
 }
 
 // A call of opening and asking, whose place begins at `at`. Tells where the next call begins.
-fn answer_ask_record(text: &[u8], at: usize) -> usize {
+pub fn answer_ask_record(text: &[u8], at: usize) -> usize {
     let asked = vector_lines::number_at(text, at);
     let place = asked.size as usize;
     let mut bytes = vector_lines::no_record();
@@ -133,45 +124,4 @@ fn answer_ask_record(text: &[u8], at: usize) -> usize {
     let b = only.length;
     show_ask_record(&bytes[..b], place);
     only.next
-}
-
-// Answers the call that begins at `at`, and tells where the next one begins. A number that begins no call is passed
-// over.
-fn answer(text: &[u8], at: usize) -> usize {
-    let call = vector_lines::number_at(text, at);
-    let what = call.size;
-    if what == 1 {
-        return answer_write(text, call.next);
-    }
-    if what == 2 {
-        return answer_read(text, call.next);
-    }
-    if what == 3 {
-        return answer_open(text, call.next);
-    }
-    if what == 4 {
-        return answer_ask(text, call.next);
-    }
-    if what == 5 {
-        return answer_ask_record(text, call.next);
-    }
-    call.next
-}
-
-// Answers one call after the other, as long as there is more.
-fn answer_all(text: &[u8]) {
-    let mut at = 0;
-    while at < text.len() {
-        let next = answer(text, at);
-        if next <= at {
-            return;
-        }
-        at = next;
-    }
-}
-
-fn main() {
-    let mut text = vector_lines::no_text();
-    let n = io::read_full(0, &mut text);
-    answer_all(&text[..n]);
 }

@@ -1,0 +1,79 @@
+// Tables: made and turned back, one level of them.
+//
+//     1 n readings coefficients codes      making
+//     2 n coefficients codes hours         turning back
+//     3 n j coefficients                   level j
+//
+// Making and turning back tell nothing but the refusal, and a level has none: it tells the first place of the stretch
+// and its length.
+
+// Makes a table and writes the answer.
+fn show_make(n: usize, readings: &[i32], coefficients: &mut [i32], codes: &mut [u8]) {
+    let told = sagivelume::sagivelume_make(n, readings, coefficients, codes);
+    vector_lines::print_head(told.number, told.place);
+    vector_lines::print_grams(coefficients);
+    vector_lines::print_bytes(codes);
+    vector_lines::print_end();
+}
+
+// Turns a table back and writes the answer.
+fn show_turn_back(n: usize, coefficients: &[i32], codes: &[u8], hours: &mut [i32]) {
+    let told = sagivelume::sagivelume_turn_back(n, coefficients, codes, hours);
+    vector_lines::print_head(told.number, told.place);
+    vector_lines::print_grams(hours);
+    vector_lines::print_end();
+}
+
+// Finds a level and writes the answer.
+fn show_level(n: usize, j: usize, coefficients: &[i32]) {
+    let stretch = sagivelume::sagivelume_level(n, j, coefficients);
+    vector_lines::print_head(stretch.start, stretch.length);
+    vector_lines::print_end();
+}
+
+// A call of making, whose n begins at `at`. Tells where the next call begins.
+pub fn answer_make(text: &[u8], at: usize) -> usize {
+    let hours = vector_lines::number_at(text, at);
+    let n = hours.size as usize;
+    let mut readings = vector_lines::no_grams();
+    let first = vector_lines::lend_grams(text, hours.next, &mut readings);
+    let r = first.length;
+    let mut coefficients = vector_lines::no_grams();
+    let second = vector_lines::lend_grams(text, first.next, &mut coefficients);
+    let c = second.length;
+    let mut codes = vector_lines::no_codes();
+    let third = vector_lines::lend_bytes(text, second.next, &mut codes);
+    let k = third.length;
+    show_make(n, &readings[..r], &mut coefficients[..c], &mut codes[..k]);
+    third.next
+}
+
+// A call of turning back, whose n begins at `at`. Tells where the next call begins.
+pub fn answer_turn_back(text: &[u8], at: usize) -> usize {
+    let series = vector_lines::number_at(text, at);
+    let n = series.size as usize;
+    let mut coefficients = vector_lines::no_grams();
+    let first = vector_lines::lend_grams(text, series.next, &mut coefficients);
+    let c = first.length;
+    let mut codes = vector_lines::no_codes();
+    let second = vector_lines::lend_bytes(text, first.next, &mut codes);
+    let k = second.length;
+    let mut hours = vector_lines::no_grams();
+    let third = vector_lines::lend_grams(text, second.next, &mut hours);
+    let h = third.length;
+    show_turn_back(n, &coefficients[..c], &codes[..k], &mut hours[..h]);
+    third.next
+}
+
+// A call of a level, whose n begins at `at`. Tells where the next call begins.
+pub fn answer_level(text: &[u8], at: usize) -> usize {
+    let hours = vector_lines::number_at(text, at);
+    let n = hours.size as usize;
+    let level = vector_lines::number_at(text, hours.next);
+    let j = level.size as usize;
+    let mut coefficients = vector_lines::no_grams();
+    let only = vector_lines::lend_grams(text, level.next, &mut coefficients);
+    let c = only.length;
+    show_level(n, j, &coefficients[..c]);
+    only.next
+}
