@@ -24,11 +24,12 @@ pub fn places(n: usize) -> usize
     requires { ⌜ n ≤ largestHours ⌝ }
     ensures { λ r. ⌜ r ≡ P n ⌝ }
 {
-    let mut p = 2;
-    while p < n {
-        p = p * 2;
+    if n <= 2 {
+        return 2;
     }
-    p
+    // n - 1 has l bits: 2^l is the least power of two above it.
+    let l = 64 - usize::leading_zeros(n - 1);
+    1 << l
 }
 
 // Check 3 of a table of p places: whether fewer coefficients or fewer codes are lent than it needs.
@@ -58,13 +59,7 @@ pub fn power(j: usize) -> usize
     requires { ⌜ j ≤ largestLevel ⌝ }
     ensures { λ r. ⌜ r ≡ 2 ^ j ⌝ }
 {
-    let mut p = 1;
-    let mut k = 0;
-    while k < j {
-        p = p * 2;
-        k += 1;
-    }
-    p
+    1 << j
 }
 
 // How many bytes the record of a table of p places has.
