@@ -8,10 +8,9 @@ use Rattle.words.specs.declared.Edges.{Edges}
 use Rattle.words.specs.declared.Finished.{Finished}
 use Rattle.words.specs.declared.Refusal.{Refusal}
 use Rattle.words.specs.declared.Stopped.{Stopped}
-use Rattle.words.specs.declared.Taking.{Taking}
 use Rattle.om3.specs.Series.{levels}
 use Rattle.om3.specs.Table.{Table, lent}
-use Rattle.om3.specs.Checks.{Check, passes, inOrder, answerBy}
+use Rattle.om3.specs.Checks.{Check, passes, refuses, inOrder, answerBy}
 use Rattle.om3.specs.Refusals.{checkDepth}
 use Rattle.om3.specs.Columns.{column}
 use Rattle.om3.specs.Stopped.{openedNodes, examineColumn, stopped}
@@ -37,8 +36,7 @@ module _ (n : ℕ) (cs : List ℤ) (ks : List ℕ) (a b w k : ℕ) where
   abbrev four : Check
   four = examineColumn l T (column a b w k) n (finishedNodes l T (column a b w k))
 
-  pub finished-lent : (why : Refusal) → Taking.Refused why ≡ answerBy Taking.Refused (lentCheck n T) Taking.Taken
-      → Finished.Refused why ≡ finished n T a b w k
+  pub finished-lent : (why : Refusal) → lentCheck n T ≡ refuses why → Finished.Refused why ≡ finished n T a b w k
   unfolding finished
   finished-lent why e = rw (checking.lent-refused n T a b w k (four ∷ []) why e)
 
@@ -59,8 +57,7 @@ module _ (n : ℕ) (cs : List ℤ) (ks : List ℕ) (a b w k : ℕ) where
     abbrev examined : Check
     examined = examineColumn l T (column a b w k) n (openedNodes l T (column a b w k) d)
 
-    pub stopped-lent : (why : Refusal) → Taking.Refused why ≡ answerBy Taking.Refused (lentCheck n T) Taking.Taken
-        → Stopped.Refused why ≡ stopped n T a b w k d
+    pub stopped-lent : (why : Refusal) → lentCheck n T ≡ refuses why → Stopped.Refused why ≡ stopped n T a b w k d
     unfolding stopped
     stopped-lent why e = rw (checking.lent-refused n T a b w k (checkDepth n d ∷ examined ∷ []) why e)
 

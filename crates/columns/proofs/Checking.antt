@@ -4,13 +4,11 @@ use mathlib.Core.List.{List, [], _∷_}
 use Prim.Native.Nat.{ℕ}
 use Rattle.words.specs.declared.Refusal.{Refusal}
 use Rattle.words.specs.declared.Edges.{Edges}
-use Rattle.words.specs.declared.Taking.{Taking}
 use Rattle.om3.specs.Table.{Table}
-use Rattle.om3.specs.Checks.{Check, passes, refuses, andThen, inOrder, answerBy}
+use Rattle.om3.specs.Checks.{Check, passes, refuses, andThen, inOrder}
 use Rattle.om3.specs.Refusals.{checkHours, checkRoom, tableShort, checkWindow, checkColumn}
 use Rattle.om3.specs.Columns.{column}
 use Rattle.om3.proofs.Examined.{in-order-append}
-use Rattle.om3.proofs.Taken.{refused-refuses}
 use Rattle.sizes.specs.Lent.{lentCheck}
 use Rattle.windows.specs.Windows.{windowCheck}
 use Rattle.windows.proofs.Windows.{told, edges-refused}
@@ -26,9 +24,8 @@ module _ (n : ℕ) (t : Table) (a b w k : ℕ) (rest : List Check) where
       in-order-append (checkHours n ∷ checkRoom (tableShort n t) ∷ []) _
       ∙ ap (andThen (lentCheck n t)) (in-order-append (checkWindow n a b ∷ checkColumn w k ∷ []) _)
 
-  pub lent-refused : (why : Refusal) → Taking.Refused why ≡ answerBy Taking.Refused (lentCheck n t) Taking.Taken
-      → whole ≡ refuses why
-  lent-refused why e = parted ∙ rw (refused-refuses (lentCheck n t) why e)
+  pub lent-refused : (why : Refusal) → lentCheck n t ≡ refuses why → whole ≡ refuses why
+  lent-refused why e = parted ∙ rw e
 
   module _ (lends : lentCheck n t ≡ passes) where
     pub window-refused : (why : Refusal) → Edges.Refused why ≡ told n a b w k → whole ≡ refuses why

@@ -1,4 +1,5 @@
 // What the tablet draws: a column of a window, stopped at a depth or finished.
+use sizes::Lending;
 use walking::Inner;
 use walking::Reached;
 use walking::Towards;
@@ -12,11 +13,11 @@ use words::Range;
 use words::Refusal;
 use words::Stopped;
 use words::Summary;
-use words::Taking;
 use words::Timestamp;
 ghost use mathlib.Core.Path.{_≡_};
 ghost use Prim.Native.Nat.{_+_, _*_, _≤_};
 ghost use Rattle.words.specs.Constants.{largestHours};
+ghost use Rattle.om3.specs.Series.{P};
 ghost use Rattle.om3.specs.Table.{lent};
 ghost use Rattle.om3.specs.Stopped.{stopped as stoppedOf};
 ghost use Rattle.om3.specs.Finished.{finished as finishedOf};
@@ -50,9 +51,17 @@ fn count_of(opened: usize) -> usize
     1 + 2 * opened
 }
 
-// A column of a table, stopped at nodes that cover `stop` hours, at least 1. Needs the buffers lent. A column without
-// an hour is answered with the table not examined.
-pub fn stopped_over(n: usize, coefficients: &[i32], codes: &[u8], x: Column, stop: usize) -> Stopped
+// A column of a table of n hours and p = P places, stopped at nodes that cover `stop` hours, at least 1. Needs the
+// buffers lent. A column without an hour is answered with the table not examined.
+pub fn stopped_over(
+    n: usize,
+    p: usize,
+    coefficients: &[i32],
+    codes: &[u8],
+    x: Column,
+    stop: usize,
+) -> Stopped
+    requires { ⌜ p ≡ P n ⌝ }
     requires { ⌜ TableLent n (now coefficients) (now codes) ⌝ }
     requires { ⌜ 1 ≤ stop ⌝ }
     ensures { λ r. ⌜ StoppedOver n (now (coefficients .entry)) (now (codes .entry)) x stop r ⌝ }
@@ -64,7 +73,7 @@ pub fn stopped_over(n: usize, coefficients: &[i32], codes: &[u8], x: Column, sto
             count: NO_NODES,
         };
     }
-    match walking::visit_table(n, coefficients, codes, x, stop) {
+    match walking::visit_table(n, p, coefficients, codes, x, stop) {
         Visited::Unsound(i) => Stopped::Refused(Refusal::Unsound(i)),
         Visited::Through(seen) => {
             let outer = seen.outer;
@@ -80,21 +89,29 @@ pub fn stopped_over(n: usize, coefficients: &[i32], codes: &[u8], x: Column, sto
     }
 }
 
-// Check 7, and then the column stopped at depth d: its nodes of level d cover P / 2^d hours. Needs the buffers lent.
-fn stopped_at(n: usize, coefficients: &[i32], codes: &[u8], x: Column, d: usize) -> Stopped
+// Check 7, and then the column stopped at depth d: its nodes of level d cover P / 2^d hours, p being P. Needs the
+// buffers lent.
+fn stopped_at(
+    n: usize,
+    p: usize,
+    coefficients: &[i32],
+    codes: &[u8],
+    x: Column,
+    d: usize,
+) -> Stopped
+    requires { ⌜ p ≡ P n ⌝ }
     requires { ⌜ TableLent n (now coefficients) (now codes) ⌝ }
     ensures { λ r. ⌜ StoppedAt n (now (coefficients .entry)) (now (codes .entry)) x d r ⌝ }
 {
     if words::LARGEST_LEVEL < d {
         return Stopped::Refused(Refusal::TooDeep);
     }
-    let p = sizes::places(n);
     let nodes = sizes::power(d);
     if p < nodes {
         return Stopped::Refused(Refusal::TooDeep);
     }
     let stop = p / nodes;
-    stopped_over(n, coefficients, codes, x, stop)
+    stopped_over(n, p, coefficients, codes, x, stop)
 }
 
 // Column k of [a, b) in w columns, stopped at depth d. Refusals in the order 1, 3, 5, 6, 7, 4.
@@ -110,12 +127,12 @@ pub fn stopped(
 ) -> Stopped
     ensures { λ r. ⌜ r ≡ stoppedOf n (lent (now (coefficients .entry)) (now (codes .entry))) (a .0) (b .0) w k d ⌝ }
 {
-    if let Taking::Refused(why) = sizes::check_lent(n, coefficients, codes) {
-        return Stopped::Refused(why);
-    }
-    match windows::column_of(n, a, b, w, k) {
-        Edges::Refused(why) => Stopped::Refused(why),
-        Edges::Hours(x) => stopped_at(n, coefficients, codes, x, d),
+    match sizes::check_lent(n, coefficients, codes) {
+        Lending::Refused(why) => Stopped::Refused(why),
+        Lending::Places(p) => match windows::column_of(n, a, b, w, k) {
+            Edges::Refused(why) => Stopped::Refused(why),
+            Edges::Hours(x) => stopped_at(n, p, coefficients, codes, x, d),
+        },
     }
 }
 
@@ -159,9 +176,10 @@ fn found(
     }
 }
 
-// A finished column of a table. Needs the buffers lent. A column without an hour is answered with the table not
-// examined.
-pub fn finished_over(n: usize, coefficients: &[i32], codes: &[u8], x: Column) -> Finished
+// A finished column of a table of n hours and p = P places. Needs the buffers lent. A column without an hour is
+// answered with the table not examined.
+pub fn finished_over(n: usize, p: usize, coefficients: &[i32], codes: &[u8], x: Column) -> Finished
+    requires { ⌜ p ≡ P n ⌝ }
     requires { ⌜ TableLent n (now coefficients) (now codes) ⌝ }
     ensures { λ r. ⌜ FinishedOver n (now (coefficients .entry)) (now (codes .entry)) x r ⌝ }
 {
@@ -171,7 +189,7 @@ pub fn finished_over(n: usize, coefficients: &[i32], codes: &[u8], x: Column) ->
             count: NO_NODES,
         };
     }
-    match walking::visit_table(n, coefficients, codes, x, 1) {
+    match walking::visit_table(n, p, coefficients, codes, x, 1) {
         Visited::Unsound(i) => Finished::Refused(Refusal::Unsound(i)),
         Visited::Through(seen) => {
             let nodes = seen.inner;
@@ -207,11 +225,11 @@ pub fn finished(
 ) -> Finished
     ensures { λ r. ⌜ r ≡ finishedOf n (lent (now (coefficients .entry)) (now (codes .entry))) (a .0) (b .0) w k ⌝ }
 {
-    if let Taking::Refused(why) = sizes::check_lent(n, coefficients, codes) {
-        return Finished::Refused(why);
-    }
-    match windows::column_of(n, a, b, w, k) {
-        Edges::Refused(why) => Finished::Refused(why),
-        Edges::Hours(x) => finished_over(n, coefficients, codes, x),
+    match sizes::check_lent(n, coefficients, codes) {
+        Lending::Refused(why) => Finished::Refused(why),
+        Lending::Places(p) => match windows::column_of(n, a, b, w, k) {
+            Edges::Refused(why) => Finished::Refused(why),
+            Edges::Hours(x) => finished_over(n, p, coefficients, codes, x),
+        },
     }
 }

@@ -11,7 +11,6 @@ use Rattle.words.specs.declared.DayChange.{DayChange}
 use Rattle.words.specs.declared.Finished.{Finished}
 use Rattle.words.specs.declared.Refusal.{Refusal}
 use Rattle.words.specs.declared.Refusal.the-variants.{BadWindow}
-use Rattle.words.specs.declared.Taking.{Taking}
 use Rattle.om3.specs.Series.{levels}
 use Rattle.om3.specs.Table.{Table, lent}
 use Rattle.om3.specs.Checks.{Check, passes, refuses, andThen, inOrder, answerBy}
@@ -20,7 +19,6 @@ use Rattle.om3.specs.Stopped.{examineColumn}
 use Rattle.om3.specs.Finished.{answer, finishedNodes}
 use Rattle.om3.specs.Days.{day, changeOf, dayChange}
 use Rattle.om3.proofs.Examined.{then-passes, in-order-append}
-use Rattle.om3.proofs.Taken.{refused-refuses}
 use Rattle.sizes.specs.Lent.{lentCheck}
 use Rattle.columns.specs.Drawing.{finishedAnswer, FinishedOver}
 use Rattle.columns.proofs.Finishing.{not-answered}
@@ -36,9 +34,8 @@ module _ (n : ℕ) (t : Table) (d : ℕ) (four : Check) where
       in-order-append (checkHours n ∷ checkRoom (tableShort n t) ∷ []) (checkDay n d ∷ four ∷ [])
       ∙ rw (then-passes four)
 
-  pub checks-lent : (why : Refusal) → Taking.Refused why ≡ answerBy Taking.Refused (lentCheck n t) Taking.Taken
-      → day-whole ≡ refuses why
-  checks-lent why e = day-parted ∙ rw (refused-refuses (lentCheck n t) why e)
+  pub checks-lent : (why : Refusal) → lentCheck n t ≡ refuses why → day-whole ≡ refuses why
+  checks-lent why e = day-parted ∙ rw e
 
   module _ (lends : lentCheck n t ≡ passes) where
     pub checks-late : n ≤ dayHours * d → day-whole ≡ refuses BadWindow
@@ -68,8 +65,7 @@ module _ (n : ℕ) (cs : List ℤ) (ks : List ℕ) (d : ℕ) where
   abbrev examined-day : Check
   examined-day = examineColumn (levels n) table (day n d) n (finishedNodes (levels n) table (day n d))
 
-  pub day-lent : (why : Refusal) → Taking.Refused why ≡ answerBy Taking.Refused (lentCheck n table) Taking.Taken
-      → DayChange.Refused why ≡ dayChange n table d
+  pub day-lent : (why : Refusal) → lentCheck n table ≡ refuses why → DayChange.Refused why ≡ dayChange n table d
   unfolding dayChange
   day-lent why e = rw (checks-lent n table d examined-day why e)
 

@@ -17,7 +17,6 @@ use Rattle.om3.specs.Bytes.{signedFrom, bytesAt}
 use Rattle.om3.specs.Record.{headerSize, hoursIn, coefficientIn, tableIn}
 use Rattle.om3.specs.RecordCalls.{openingChecks, unpackingChecks, opening}
 use Rattle.om3.proofs.Lists.{map-up-length}
-use Rattle.om3.proofs.Making.{good-some}
 use Rattle.om3.proofs.RecordsOpened.{opens-formed, asked-unpacked}
 use Rattle.om3.proofs.RecordsTaken.{unpacking-parted}
 use Rattle.packing.specs.Packing.{coefficientFrom, unpacked}
@@ -90,14 +89,9 @@ module _ (r : List ℕ) where
         length-take-le (length r - after) (drop after r) (omega (arith, length-drop after r))
         ∙ omega (arith, record-length)
 
-    pub packed-table : PackedTable n packed codes
+    pub packed-table : PackedTable n p packed codes
     packed-table =
-        let same : p ≡ P n = o .places ∙ sym (ap P (o .hours)) in
-        record {
-          most = rw (o .hours) (good-some _ (opens-formed r (o .opens) .timed) .1);
-          coefficients = packed-length ∙ ap (λ (k : ℕ). 3 * k) same;
-          codes = codes-length ∙ ap (λ (k : ℕ). k / 2) same;
-        }
+        record { places = o .places ∙ sym (ap P (o .hours)); coefficients = packed-length; codes = codes-length }
 
     -- What the parts hold is the table that the bytes state.
     coefficient-same : (i : ℕ) → i < p → coefficientFrom packed i ≡ coefficientIn r i

@@ -5,15 +5,12 @@ use mathlib.Core.List.{List}
 use Prim.Native.Nat.{ℕ}
 use lib.IntN.{ℤ}
 use Rattle.words.specs.declared.Refusal.the-variants.{BadHours, ShortBuffer}
-use Rattle.words.specs.declared.Taking.{Taking}
-use Rattle.om3.specs.Series.{badHours}
+use Rattle.om3.specs.Series.{badHours, P}
 use Rattle.om3.specs.Table.{Table, lent}
-use Rattle.om3.specs.Checks.{passes, inOrder, answerBy}
+use Rattle.om3.specs.Checks.{passes, refuses, inOrder}
 use Rattle.om3.specs.Refusals.{tableShort}
-use Rattle.om3.proofs.Examined.{first-absent}
-use Rattle.om3.proofs.Taken.{taken-passes}
 use Rattle.om3.proofs.Lent.{not-short, coefficients-there, codes-there}
-use Rattle.sizes.specs.Lent.{lentCheck, TableLent}
+use Rattle.sizes.specs.Lent.{lentCheck, TableLent, Passed}
 
 module _ (n : ℕ) (cs : List ℤ) (ks : List ℕ) where
   pub table-lent : badHours n ≡ false → tableShort n (lent cs ks) ≡ false → TableLent n cs ks
@@ -27,30 +24,23 @@ module _ (n : ℕ) (cs : List ℤ) (ks : List ℕ) where
   pub table-room : TableLent n cs ks → tableShort n (lent cs ks) ≡ false
   table-room t = not-short n (lent cs ks) (t .coefficients) (t .codes)
 
--- Checks 1 and 3.
+-- Checks 1 and 3, in their order.
 module _ (n : ℕ) (cs : List ℤ) (ks : List ℕ) where
   abbrev T : Table
   T = lent cs ks
 
-  pub bad-hours : badHours n ≡ true → Taking.Refused BadHours ≡ answerBy Taking.Refused (lentCheck n T) Taking.Taken
+  pub bad-hours : badHours n ≡ true → lentCheck n T ≡ refuses BadHours
   unfolding inOrder
   bad-hours b = rw b
 
   module _ (good : badHours n ≡ false) where
-    pub short-table : tableShort n T ≡ true
-        → Taking.Refused ShortBuffer ≡ answerBy Taking.Refused (lentCheck n T) Taking.Taken
+    pub short-table : tableShort n T ≡ true → lentCheck n T ≡ refuses ShortBuffer
     unfolding inOrder
     short-table h = rw (good, h)
 
-    pub enough : tableShort n T ≡ false → Taking.Taken ≡ answerBy Taking.Refused (lentCheck n T) Taking.Taken
+    pub enough : tableShort n T ≡ false → lentCheck n T ≡ passes
     unfolding inOrder
     enough h = rw (good, h)
 
-  pub lent-passes : Taking.Taken ≡ answerBy Taking.Refused (lentCheck n T) Taking.Taken → lentCheck n T ≡ passes
-  lent-passes taken = taken-passes (lentCheck n T) taken
-
-  -- They have passed: the table is lent.
-  pub checked-lent : lentCheck n T ≡ passes → TableLent n cs ks
-  checked-lent lends =
-      let one = first-absent (badHours n) BadHours _ lends in
-      table-lent n cs ks (one .0) (first-absent (tableShort n T) ShortBuffer _ (one .1) .0)
+    pub lent-passed : tableShort n T ≡ false → (p : ℕ) → p ≡ P n → Passed n cs ks p
+    lent-passed h p e = record { checks = enough h; table = table-lent n cs ks good h; places = e }

@@ -1,16 +1,19 @@
 // How large a table and its record are, and whether a table is lent whole: checks 1 and 3.
 use words::Refusal;
-use words::Taking;
 ghost use mathlib.Core.Path.{_≡_};
 ghost use mathlib.Core.Bool.{_||_};
 ghost use Prim.Native.Nat.{_+_, _/_, _^_, _≤_};
 ghost use Rattle.words.specs.Constants.{largestLevel, largestHours};
 ghost use Rattle.om3.specs.Series.{badHours, P};
-ghost use Rattle.om3.specs.Table.{lent};
-ghost use Rattle.om3.specs.Checks.{answerBy};
 ghost use Rattle.om3.specs.Refusals.{short};
 ghost use Rattle.om3.specs.Record.{lengthFor};
-ghost use Rattle.sizes.specs.Lent.{lentCheck};
+ghost use Rattle.sizes.specs.Lent.{LentAs};
+
+// What checks 1 and 3 of a table answer: its refusal, or P, for which both buffers are long enough.
+pub enum Lending {
+    Refused(Refusal),
+    Places(usize),
+}
 
 // Check 1: whether n is 0 or over 16,384.
 pub fn bad_hours(n: usize) -> bool
@@ -39,19 +42,18 @@ pub fn table_short(p: usize, coefficients: usize, codes: usize) -> bool
     coefficients < p || codes < p / 2
 }
 
-// Checks 1 and 3 of a table.
-pub fn check_lent(n: usize, coefficients: &[i32], codes: &[u8]) -> Taking
-    ensures { λ r. ⌜ r ≡ answerBy Taking.Refused
-        (lentCheck n (lent (now (coefficients .entry)) (now (codes .entry)))) Taking.Taken ⌝ }
+// Checks 1 and 3 of a table: why it is refused, or how many places it has.
+pub fn check_lent(n: usize, coefficients: &[i32], codes: &[u8]) -> Lending
+    ensures { λ r. ⌜ LentAs n (now (coefficients .entry)) (now (codes .entry)) r ⌝ }
 {
     if bad_hours(n) {
-        return Taking::Refused(Refusal::BadHours);
+        return Lending::Refused(Refusal::BadHours);
     }
     let p = places(n);
     if table_short(p, coefficients.len(), codes.len()) {
-        return Taking::Refused(Refusal::ShortBuffer);
+        return Lending::Refused(Refusal::ShortBuffer);
     }
-    Taking::Taken
+    Lending::Places(p)
 }
 
 // 2^j, for a level j.

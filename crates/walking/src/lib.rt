@@ -14,6 +14,7 @@ use words::Timestamp;
 ghost use mathlib.Core.Path.{_≡_};
 ghost use Prim.Native.Nat.{_+_, _*_, _≤_};
 ghost use lib.ListN.{length};
+ghost use Rattle.om3.specs.Series.{P};
 ghost use Rattle.sizes.specs.Lent.{TableLent};
 ghost use Rattle.walking.specs.Nodes.{Below};
 ghost use Rattle.walking.specs.Visiting.{Steps, SteppedFrom, VisitedFrom, TableVisited};
@@ -187,9 +188,17 @@ fn visit(
     }
 }
 
-// Visits a table for a column that has an hour, from the root values down to nodes that cover `stop` hours, 1 or more.
-// n is not too many hours, and both buffers are long enough.
-pub fn visit_table(n: usize, coefficients: &[i32], codes: &[u8], x: Column, stop: usize) -> Visited
+// Visits a table of n hours and p = P places for a column that has an hour, from the root values down to nodes that
+// cover `stop` hours, 1 or more. Both buffers are long enough.
+pub fn visit_table(
+    n: usize,
+    p: usize,
+    coefficients: &[i32],
+    codes: &[u8],
+    x: Column,
+    stop: usize,
+) -> Visited
+    requires { ⌜ p ≡ P n ⌝ }
     requires { ⌜ TableLent n (now coefficients) (now codes) ⌝ }
     requires { ⌜ 1 ≤ stop ⌝ }
     ensures { λ r. ⌜ TableVisited n (now (coefficients .entry)) (now (codes .entry)) x stop r ⌝ }
@@ -198,7 +207,6 @@ pub fn visit_table(n: usize, coefficients: &[i32], codes: &[u8], x: Column, stop
     let Root::Sound(range) = root else {
         return Visited::Unsound(NodeId(0));
     };
-    let p = sizes::places(n);
     let top = Reached {
         id: NodeId(1),
         from: Timestamp(0),

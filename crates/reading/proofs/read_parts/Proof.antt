@@ -2,7 +2,8 @@
 -- coefficients and copies the codes of a sound table. Assumes nothing.
 use mathlib.Core.Path.{_≡_, sym, _∙_}
 use mathlib.Core.Bool.{false}
-use Prim.Native.Nat.{_/_, _≤_}
+use Prim.Native.Nat.{_≤_}
+use native.Mathlib.Omega.{arith}
 use lib.ListN.{length}
 use lib.Seq.{length-take-le}
 use borrow.Author.Needs.{needs}
@@ -25,8 +26,8 @@ table-found : (c : tie.After-table-short) →
     c .table-short .result ≡ tableShort (a .n) (lent (a .coefficients .now) (a .codes .now)))
 table-found c =
     let a = startOf c .args in
-    laws.lent-short (a .n) (a .packed .now) (a .codes-in .now) (a .coefficients .now) (a .codes .now) (startOf c .pre)
-    (c .table-short .result) (c .table-short .ensures)
+    laws.lent-short (a .n) (a .places) (a .packed .now) (a .codes-in .now) (a .coefficients .now) (a .codes .now)
+    (startOf c .pre) (c .table-short .result) (c .table-short .ensures)
 
 -- Check 3 has passed.
 room : (c : tie.Else1) →
@@ -34,37 +35,25 @@ room : (c : tie.Else1) →
     tableShort (a .n) (lent (a .coefficients .now) (a .codes .now)) ≡ false)
 room c = sym (table-found (c .before)) ∙ c .if1 .left
 
-table-short-requires : tie.Need-table-short-requires
-table-short-requires c κs = search needs
-
 -- So both buffers have room for what is unpacked.
 coefficients-fit : (c : tie.Else1) →
     (let a = start c .args in
-    length (a .packed .now) / 3 ≤ length (a .coefficients .now))
+    a .places ≤ length (a .coefficients .now))
 coefficients-fit c =
     let a = start c .args in
-    laws.coefficients-fit (a .n) (a .packed .now) (a .codes-in .now) (a .coefficients .now) (a .codes .now)
-    (start c .pre) (room c)
+    laws.coefficients-fit (a .n) (a .places) (a .packed .now) (a .codes-in .now) (a .coefficients .now)
+    (a .codes .now) (start c .pre) (room c)
 
 returns : tie.Need-returns
 returns c =
-    laws.short-table _ _ _ _ _ (startOf (c .before) .pre) (sym (table-found (c .before)) ∙ c .if1 .taken)
-
-examine-requires : tie.Need-examine-requires
-examine-requires c κs = search needs
-
-enum-known-i : tie.Need-enum-known-i
-enum-known-i c = search needs
+    laws.short-table _ _ _ _ _ _ (startOf (c .before) .pre) (sym (table-found (c .before)) ∙ c .if1 .taken)
 
 returns-2 : tie.Need-returns-2
 returns-2 c =
     let examined = c .before .before .before in
     let passed = examined .before in
-    laws.unsound-refused _ _ _ _ _ (start passed .pre) (room passed) _ (examined .examine .ensures) _
+    laws.unsound-refused _ _ _ _ _ _ (start passed .pre) (room passed) _ (examined .examine .ensures) _
     (c .before .i .given .1)
-
-enum-told : tie.Need-enum-told
-enum-told c = search needs
 
 slice-relend-prefix-unpack : tie.Need-slice-relend-prefix-unpack
 slice-relend-prefix-unpack c = coefficients-fit (c .before .before .before)
@@ -77,20 +66,14 @@ slice-aggregate-unpack c =
 unpack-requires : tie.Need-unpack-requires
 unpack-requires c κs =
     let passed = c .before .before .before .before in
-    length-take-le _ _ (coefficients-fit passed)
+    length-take-le _ _ (coefficients-fit passed) ∙ omega (arith, start passed .pre .coefficients)
 
 copy-requires : tie.Need-copy-requires
 copy-requires c κs =
     let passed = c .before .before .before .before .before .before .before in
     let a = start passed .args in
-    laws.codes-fit (a .n) (a .packed .now) (a .codes-in .now) (a .coefficients .now) (a .codes .now)
+    laws.codes-fit (a .n) (a .places) (a .packed .now) (a .codes-in .now) (a .coefficients .now) (a .codes .now)
     (start passed .pre) (room passed)
-
-same-length : tie.Need-same-length
-same-length c = search needs
-
-same-length-2 : tie.Need-same-length-2
-same-length-2 c = search needs
 
 returns-3 : tie.Need-returns-3
 returns-3 c =
@@ -98,23 +81,12 @@ returns-3 c =
     let told = unpacked .before .before in
     let examined = told .before .before in
     let passed = examined .before in
-    laws.table-read _ _ _ _ _ (start passed .pre) (room passed) _ (examined .examine .ensures)
+    laws.table-read _ _ _ _ _ _ (start passed .pre) (room passed) _ (examined .examine .ensures)
     (told .enum-told .given .1) _ (unpacked .unpack .ensures) _ (c .before .before .copy .ensures .1)
 
 pub read-parts-spec : {M : Type 1} → statement M
 read-parts-spec =
     tie.close
-    (tie.spec
-    table-short-requires
-    returns
-    examine-requires
-    enum-known-i
-    returns-2
-    enum-told
-    slice-relend-prefix-unpack
-    slice-aggregate-unpack
-    unpack-requires
-    copy-requires
-    same-length
-    same-length-2
-    returns-3)
+    (tie.spec (λ c κs. search needs) returns (λ c κs. search needs) (λ c. search needs) returns-2 (λ c. search needs)
+    slice-relend-prefix-unpack slice-aggregate-unpack unpack-requires copy-requires (λ c. search needs)
+    (λ c. search needs) returns-3)

@@ -2,6 +2,8 @@
 use mathlib.Core.Path.{_≡_, sym, _∙_}
 use mathlib.Core.Bool.{false}
 use Rattle.om3.specs.Series.{badHours}
+use Rattle.om3.specs.Table.{lent}
+use Rattle.om3.specs.Refusals.{tableShort}
 use Rattle.om3.proofs.Making.{good-some}
 use Rattle.sizes.proofs.Lent as laws
 use borrow.Author.Needs.{needs}
@@ -12,8 +14,11 @@ use Rattle.sizes.proofs.check_lent.Tie as tie
 good : (c : tie.Else1) → badHours (c .before .before .before .args .n) ≡ false
 good c = sym (c .before .bad-hours .ensures) ∙ c .if1 .left
 
-bad-hours-requires : tie.Need-bad-hours-requires
-bad-hours-requires c κs = search needs
+-- What check 3 found.
+found : (c : tie.After-table-short) →
+    (let a = c .before .before .before .before .before .args in
+    c .table-short .result ≡ tableShort (a .n) (lent (a .coefficients .now) (a .codes .now)))
+found c = rw (c .before .places .ensures) at (c .table-short .ensures)
 
 returns : tie.Need-returns
 returns c =
@@ -24,25 +29,19 @@ returns c =
 places-requires : tie.Need-places-requires
 places-requires c κs = good-some _ (good c) .1
 
-table-short-requires : tie.Need-table-short-requires
-table-short-requires c κs = search needs
-
 returns-2 : tie.Need-returns-2
 returns-2 c =
-    let found = c .before in
-    let checked = found .before .before in
+    let checked = c .before .before .before in
     let a = checked .before .before .before .args in
-    let is-short = rw (found .before .places .ensures) at (sym (found .table-short .ensures) ∙ c .if2 .taken) in
+    let is-short = sym (found (c .before)) ∙ c .if2 .taken in
     laws.short-table (a .n) (a .coefficients .now) (a .codes .now) (good checked) is-short
 
 returns-3 : tie.Need-returns-3
 returns-3 c =
-    let found = c .before in
-    let checked = found .before .before in
-    let a = checked .before .before .before .args in
-    let not-short = rw (found .before .places .ensures) at (sym (found .table-short .ensures) ∙ c .if2 .left) in
-    laws.enough (a .n) (a .coefficients .now) (a .codes .now) (good checked) not-short
+    let places = c .before .before in
+    laws.lent-passed _ _ _ (good (places .before)) (sym (found (c .before)) ∙ c .if2 .left) _ (places .places .ensures)
 
 pub check-lent-spec : {M : Type 1} → statement M
 check-lent-spec =
-    tie.close (tie.spec bad-hours-requires returns places-requires table-short-requires returns-2 returns-3)
+    tie.close
+    (tie.spec (λ c κs. search needs) returns places-requires (λ c κs. search needs) returns-2 returns-3)

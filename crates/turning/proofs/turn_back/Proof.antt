@@ -58,17 +58,11 @@ root-told c g =
     root-read cs (c .before .before .root-range-arg .given) (c .before .root-range-arg2 .given)
     (c .root-range .ensures) g
 
-bad-hours-requires : tie.Need-bad-hours-requires
-bad-hours-requires c κs = search needs
-
 returns : tie.Need-returns
 returns c = laws.bad-hours _ _ _ _ (sym (c .before .bad-hours .ensures) ∙ c .if1 .taken)
 
 places-requires : tie.Need-places-requires
 places-requires c κs = good-some _ (good c) .1
-
-table-short-requires : tie.Need-table-short-requires
-table-short-requires c κs = search needs
 
 returns-2 : tie.Need-returns-2
 returns-2 c =
@@ -82,18 +76,14 @@ returns-3 c =
     (c .if3 .taken)
 
 examine-requires : tie.Need-examine-requires
-examine-requires c κs = fits c .table
-
-enum-known-i : tie.Need-enum-known-i
-enum-known-i c = search needs
+examine-requires c κs =
+    let found = c .before .before in
+    (found .before .places .ensures, fits c .table)
 
 returns-4 : tie.Need-returns-4
 returns-4 c =
     let c3 = c .before .before .before in
     laws.unsound-refused _ _ _ _ (fits (c3 .before)) _ (c3 .examine .ensures) _ (c .before .i .given .1)
-
-enum-told : tie.Need-enum-told
-enum-told c = search needs
 
 shared-slice-copy-out-root-range : tie.Need-shared-slice-copy-out-root-range
 shared-slice-copy-out-root-range c =
@@ -108,15 +98,6 @@ shared-slice-copy-out-root-range-2 c =
     let a = start passed .args in
     let z : 1 < length (a .coefficients .now) = omega (arith, 2≤P (a .n), fits passed .table .coefficients) in
     z
-
-root-range-requires : tie.Need-root-range-requires
-root-range-requires c κs = search needs
-
-enum-known-range : tie.Need-enum-known-range
-enum-known-range c = search needs
-
-slice-relend-prefix-write-below : tie.Need-slice-relend-prefix-write-below
-slice-relend-prefix-write-below c = search needs
 
 slice-aggregate-write-below : tie.Need-slice-aggregate-write-below
 slice-aggregate-write-below c =
@@ -136,12 +117,6 @@ write-below-requires c κs =
     let w = f .table .coefficients in
     let k = f .table .codes in
     (omega arith, (root-readings (a .coefficients .now) r, (omega arith, omega arith)))
-
-enum-told-2 : tie.Need-enum-told-2
-enum-told-2 c = search needs
-
-same-length : tie.Need-same-length
-same-length c = search needs
 
 returns-5 : tie.Need-returns-5
 returns-5 c =
@@ -166,25 +141,7 @@ returns-6 c =
 pub turn-back-spec : {M : Type 1} → statement M
 turn-back-spec =
     tie.close
-    (tie.spec
-    bad-hours-requires
-    returns
-    places-requires
-    table-short-requires
-    returns-2
-    returns-3
-    examine-requires
-    enum-known-i
-    returns-4
-    enum-told
-    shared-slice-copy-out-root-range
-    shared-slice-copy-out-root-range-2
-    root-range-requires
-    enum-known-range
-    slice-relend-prefix-write-below
-    slice-aggregate-write-below
-    write-below-requires
-    enum-told-2
-    same-length
-    returns-5
-    returns-6)
+    (tie.spec (λ c κs. search needs) returns places-requires (λ c κs. search needs) returns-2 returns-3
+    examine-requires (λ c. search needs) returns-4 (λ c. search needs) shared-slice-copy-out-root-range
+    shared-slice-copy-out-root-range-2 (λ c κs. search needs) (λ c. search needs) (λ c. search needs)
+    slice-aggregate-write-below write-below-requires (λ c. search needs) (λ c. search needs) returns-5 returns-6)

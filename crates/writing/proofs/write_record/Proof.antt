@@ -60,17 +60,11 @@ there c =
     let table = fits c .table in
     rw (c .before .before .before .before .places .ensures) (table .coefficients, table .codes)
 
-bad-hours-requires : tie.Need-bad-hours-requires
-bad-hours-requires c κs = search needs
-
 returns : tie.Need-returns
 returns c = laws.bad-hours _ _ _ _ (sym (c .before .bad-hours .ensures) ∙ c .if1 .taken)
 
 places-requires : tie.Need-places-requires
 places-requires c κs = good-some _ (good c) .1
-
-table-short-requires : tie.Need-table-short-requires
-table-short-requires c κs = search needs
 
 returns-2 : tie.Need-returns-2
 returns-2 c =
@@ -90,18 +84,14 @@ returns-3 c =
     (rw (size-right (c .before)) at (c .if3 .taken))
 
 examine-requires : tie.Need-examine-requires
-examine-requires c κs = fits c .table
-
-enum-known-i : tie.Need-enum-known-i
-enum-known-i c = search needs
+examine-requires c κs =
+    let found = c .before .before .before in
+    (found .before .places .ensures, fits c .table)
 
 returns-4 : tie.Need-returns-4
 returns-4 c =
     let c3 = c .before .before .before in
     laws.unsound-refused _ _ _ _ (fits (c3 .before)) _ (c3 .examine .ensures) _ (c .before .i .given .1)
-
-enum-told : tie.Need-enum-told
-enum-told c = search needs
 
 slice-aggregate-put-record : tie.Need-slice-aggregate-put-record
 slice-aggregate-put-record c =
@@ -122,9 +112,6 @@ put-record-requires c κs =
     laws.ready _ _ _ (a .bytes .now) (fits (c5 .before)) _ (c5 .examine .ensures) (c3 .enum-told .given .1) _
     (c10 .places .ensures)
 
-same-length : tie.Need-same-length
-same-length c = search needs
-
 returns-5 : tie.Need-returns-5
 returns-5 c =
     let c2 = c .before .before in
@@ -137,20 +124,6 @@ returns-5 c =
 pub write-record-spec : {M : Type 1} → statement M
 write-record-spec =
     tie.close
-    (tie.spec
-    bad-hours-requires
-    returns
-    places-requires
-    table-short-requires
-    returns-2
-    record-size-requires
-    returns-3
-    examine-requires
-    enum-known-i
-    returns-4
-    enum-told
-    slice-aggregate-put-record
-    slice-aggregate-put-record-2
-    put-record-requires
-    same-length
-    returns-5)
+    (tie.spec (λ c κs. search needs) returns places-requires (λ c κs. search needs) returns-2 record-size-requires
+    returns-3 examine-requires (λ c. search needs) returns-4 (λ c. search needs) slice-aggregate-put-record
+    slice-aggregate-put-record-2 put-record-requires (λ c. search needs) returns-5)
