@@ -18,6 +18,7 @@ use Rattle.om3.specs.Finished.{answer, finishedNodes, finished}
 use Rattle.om3.proofs.Examined.{then-passes}
 use Rattle.columns.specs.Drawing.{StoppedAt, FinishedOver}
 use Rattle.sizes.specs.Lent.{lentCheck}
+use Rattle.sizes.proofs.Lent.{lent-refuses}
 use Rattle.windows.specs.Windows.{windowCheck}
 use Rattle.windows.proofs.Windows.{edges-passed}
 use Rattle.columns.proofs.Checking as checking
@@ -38,7 +39,7 @@ module _ (n : ℕ) (cs : List ℤ) (ks : List ℕ) (a b w k : ℕ) where
 
   pub finished-lent : (why : Refusal) → lentCheck n T ≡ refuses why → Finished.Refused why ≡ finished n T a b w k
   unfolding finished
-  finished-lent why e = rw (checking.lent-refused n T a b w k (four ∷ []) why e)
+  finished-lent why e = rw (lent-refuses n T _ why e)
 
   module _ (lends : lentCheck n T ≡ passes) where
     pub finished-window : (why : Refusal) → Edges.Refused why ≡ told → Finished.Refused why ≡ finished n T a b w k
@@ -59,7 +60,7 @@ module _ (n : ℕ) (cs : List ℤ) (ks : List ℕ) (a b w k : ℕ) where
 
     pub stopped-lent : (why : Refusal) → lentCheck n T ≡ refuses why → Stopped.Refused why ≡ stopped n T a b w k d
     unfolding stopped
-    stopped-lent why e = rw (checking.lent-refused n T a b w k (checkDepth n d ∷ examined ∷ []) why e)
+    stopped-lent why e = rw (lent-refuses n T _ why e)
 
     module _ (lends : lentCheck n T ≡ passes) where
       pub stopped-window : (why : Refusal) → Edges.Refused why ≡ told → Stopped.Refused why ≡ stopped n T a b w k d

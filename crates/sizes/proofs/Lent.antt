@@ -1,14 +1,17 @@
--- A table is lent whole exactly if checks 1 and 3 pass for it; what these two checks say. Assumes nothing.
-use mathlib.Core.Path.{_≡_}
+-- A table is lent whole exactly if checks 1 and 3 pass for it; what these two checks say, and of a call that begins
+-- with them. Assumes nothing.
+use mathlib.Core.Path.{_≡_, _∙_}
 use mathlib.Core.Bool.{true, false}
-use mathlib.Core.List.{List}
+use mathlib.Core.List.{List, [], _∷_}
 use Prim.Native.Nat.{ℕ}
 use lib.IntN.{ℤ}
+use Rattle.words.specs.declared.Refusal.{Refusal}
 use Rattle.words.specs.declared.Refusal.the-variants.{BadHours, ShortBuffer}
 use Rattle.om3.specs.Series.{badHours, P}
 use Rattle.om3.specs.Table.{Table, lent}
-use Rattle.om3.specs.Checks.{passes, refuses, inOrder}
-use Rattle.om3.specs.Refusals.{tableShort}
+use Rattle.om3.specs.Checks.{Check, passes, refuses, andThen, inOrder}
+use Rattle.om3.specs.Refusals.{checkHours, checkRoom, tableShort}
+use Rattle.om3.proofs.Examined.{in-order-append}
 use Rattle.om3.proofs.Lent.{not-short, coefficients-there, codes-there}
 use Rattle.sizes.specs.Lent.{lentCheck, TableLent, Passed}
 
@@ -44,3 +47,17 @@ module _ (n : ℕ) (cs : List ℤ) (ks : List ℕ) where
 
     pub lent-passed : tableShort n T ≡ false → (p : ℕ) → p ≡ P n → Passed n cs ks p
     lent-passed h p e = record { checks = enough h; table = table-lent n cs ks good h; places = e }
+
+-- The checks of a call that begin with these two: where they refuse, that decides; where they pass, the rest does.
+module _ (n : ℕ) (t : Table) (rest : List Check) where
+  abbrev whole : Check
+  whole = inOrder (checkHours n ∷ checkRoom (tableShort n t) ∷ rest)
+
+  parted : whole ≡ andThen (lentCheck n t) (inOrder rest)
+  parted = in-order-append (checkHours n ∷ checkRoom (tableShort n t) ∷ []) rest
+
+  pub lent-refuses : (why : Refusal) → lentCheck n t ≡ refuses why → whole ≡ refuses why
+  lent-refuses why e = parted ∙ rw e
+
+  pub lent-passes : lentCheck n t ≡ passes → whole ≡ inOrder rest
+  lent-passes e = parted ∙ rw e
