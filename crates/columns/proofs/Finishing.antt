@@ -8,9 +8,7 @@ use native.Mathlib.Nat.{le-refl}
 use native.Mathlib.Omega.{arith}
 use lib.IntN.{ℤ}
 use lib.Dec.{leb}
-use lib.Pow.{pow-mono}
 use borrow.Author.Tests.{le-leb, lt-leb}
-use Rattle.words.specs.Constants.{largestHours}
 use Rattle.words.specs.declared.Answer.{Answer}
 use Rattle.words.specs.declared.Column.{Column}
 use Rattle.words.specs.declared.Finished.{Finished}
@@ -20,13 +18,12 @@ use Rattle.words.specs.declared.Refusal.{Refusal}
 use Rattle.words.specs.declared.Refusal.the-variants.{Unsound}
 use Rattle.om3.specs.Lists.{lastOf}
 use Rattle.om3.specs.Series.{levels}
-use Rattle.om3.specs.Nodes.{Node, InTree, number, width}
+use Rattle.om3.specs.Nodes.{Node, InTree, number}
 use Rattle.om3.specs.Table.{Table, lent}
 use Rattle.om3.specs.Checks.{Check, passes, andThen, inOrder, answerBy}
 use Rattle.om3.specs.Sound.{soundNode, examine, examineNode, examineNodes, examineRoot}
 use Rattle.om3.specs.Stopped.{openedNodes, countAt, rangeOver, examineColumn}
 use Rattle.om3.specs.Finished.{nodesOf, firstWalk, lastWalk, insideNodes, walksFrom, answer, count, finishedNodes}
-use Rattle.om3.proofs.Levels.{P-most}
 use Rattle.om3.proofs.Examined.{then-assoc, in-order-append}
 use Rattle.om3.proofs.Listed.{All}
 use Rattle.om3.proofs.KeptNodes.{NonEmpty, inside-inner, inside-non-empty}
@@ -65,7 +62,7 @@ module _ (l n : ℕ) (t : Table) where
       ap (andThen (examineRoot t)) (nodes-append vs us)
       ∙ then-assoc (examineRoot t) (examineNodes l n t vs) (examineNodes l n t us)
 
--- A node of the tree as the code carries it is at its place, and covers no more hours than the largest series has.
+-- A node of the tree as the code carries it is at its place.
 placed : {l : ℕ} (t : Table) (v : Node) → InTree l v → (at : Reached) → at ≡ reachedOf l t v → At l t v at
 placed t v i at e =
     rw e
@@ -73,12 +70,6 @@ placed t v i at e =
       located = record { inTree = i; numbered = refl; begins = refl; covers = refl };
       range = refl;
     })
-
-hours-most : (n : ℕ) (v : Node) → width (levels n) v ≤ largestHours
-unfolding width
-hours-most n v =
-    let less : levels n - v .level ≤ levels n = omega arith in
-    omega (arith, pow-mono less, P-most n)
 
 -- The nodes of an inner range, from what the visit says of them.
 nothing-list : (l : ℕ) (t : Table) (vs : List Node) → Inner.Nothing ≡ innerOver l t vs → vs ≡ []
@@ -112,13 +103,6 @@ module _ (n : ℕ) (t : Table) (x : Column) (range : Range) (first last : Reache
   last-at =
       let i = last-in (levels n) t (N .node) (N .further) (all-held .0 .inTree) (all-held .1) in
       placed t (lastOf (N .node) (N .further)) i last (N .ends)
-
-  pub first-hours : first .hours ≤ largestHours
-  first-hours = omega (arith, ap (λ (r : Reached). r .hours) (N .begins), hours-most n (N .node))
-
-  pub last-hours : last .hours ≤ largestHours
-  last-hours =
-      omega (arith, ap (λ (r : Reached). r .hours) (N .ends), hours-most n (lastOf (N .node) (N .further)))
 
 module _ (n : ℕ) (cs : List ℤ) (ks : List ℕ) (x : Column) where
   abbrev l : ℕ
@@ -168,7 +152,7 @@ module _ (n : ℕ) (cs : List ℤ) (ks : List ℕ) (x : Column) where
           nodes-list l T x range first last (insideNodes l T x) refl (sym e ∙ inner-seen)
 
       pub nodes-below : (range : Range) (first last : Reached) → s .inner ≡ Inner.Nodes range first last
-          → Below cs ks first × Below cs ks last
+          → Below 1 cs ks first × Below 1 cs ks last
       nodes-below range first last e = rw e at (W .below s refl)
 
       count-is : 1 + 2 * s .opened ≡ countAt l T x l

@@ -17,12 +17,12 @@ use words::Timestamp;
 ghost use mathlib.Core.Path.{_≡_};
 ghost use Prim.Native.Nat.{_+_, _*_, _≤_};
 ghost use Rattle.words.specs.Constants.{largestHours};
-ghost use Rattle.om3.specs.Series.{P};
+ghost use Rattle.om3.specs.Series.{levels, P};
 ghost use Rattle.om3.specs.Table.{lent};
 ghost use Rattle.om3.specs.Stopped.{stopped as stoppedOf};
 ghost use Rattle.om3.specs.Finished.{finished as finishedOf};
 ghost use Rattle.sizes.specs.Lent.{TableLent};
-ghost use Rattle.walking.specs.Nodes.{Below};
+ghost use Rattle.walking.specs.Nodes.{LentTo, Below};
 ghost use Rattle.columns.specs.Drawing.{innerRange};
 ghost use Rattle.columns.specs.Drawing.{StoppedOver, StoppedAt, FoundFrom, FinishedOver};
 
@@ -51,8 +51,9 @@ fn count_of(opened: usize) -> usize
     1 + 2 * opened
 }
 
-// A column of a table of n hours and p = P places, stopped at nodes that cover `stop` hours, at least 1. Needs the
-// buffers lent. A column without an hour is answered with the table not examined.
+// A column of a table of n hours and p = P places, stopped at nodes that cover `stop` hours, at least 1. Needs the root
+// values, and the details and codes that nodes of more hours have. A column without an hour is answered with the table
+// not examined.
 pub fn stopped_over(
     n: usize,
     p: usize,
@@ -62,7 +63,7 @@ pub fn stopped_over(
     stop: usize,
 ) -> Stopped
     requires { ⌜ p ≡ P n ⌝ }
-    requires { ⌜ TableLent n (now coefficients) (now codes) ⌝ }
+    requires { ⌜ LentTo stop (levels n) (now coefficients) (now codes) ⌝ }
     requires { ⌜ 1 ≤ stop ⌝ }
     ensures { λ r. ⌜ StoppedOver n (now (coefficients .entry)) (now (codes .entry)) x stop r ⌝ }
 {
@@ -137,7 +138,7 @@ pub fn stopped(
 }
 
 // A column whose first and last inner node these are: the walks to its first and to its last reading. Needs both
-// nodes, of at most 16,384 hours, with all below them, in the lent buffers, and a count of at most 32,768. [forms 7]
+// nodes to be of a table that is lent down to the pairs, and a count of at most 32,768. [forms 7]
 fn found(
     n: usize,
     coefficients: &[i32],
@@ -147,8 +148,8 @@ fn found(
     last: Reached,
     count: usize,
 ) -> Finished
-    requires { ⌜ Below (now coefficients) (now codes) first × Below (now coefficients) (now codes) last ⌝ }
-    requires { ⌜ (first .hours ≤ largestHours) × (last .hours ≤ largestHours) × (count ≤ 2 * largestHours) ⌝ }
+    requires { ⌜ Below 1 (now coefficients) (now codes) first × Below 1 (now coefficients) (now codes) last ⌝ }
+    requires { ⌜ count ≤ 2 * largestHours ⌝ }
     ensures { λ r. ⌜ FoundFrom n (now (coefficients .entry)) (now (codes .entry)) range first last count r ⌝ }
 {
     match walking::walk(n, coefficients, codes, Towards::First, first) {

@@ -1,8 +1,8 @@
 -- What examining a table in its bytes promises. Cited by the contracts of this crate and of reading. Assumes nothing.
 --
---   halvesIn cs i range   what the step down from node i answers, with its details as they stand in cs
---   FourExamined          the contract of the examination of a node of four hours and its two pairs
---   PackedTable n p bs qs p is P for n hours, and bs and qs are the bytes of p coefficients and p/2 codes
+--   halvesIn cs i range     what the step down from node i answers, with its details as they stand in cs
+--   FourExamined            the contract of the examination of a node of four hours and its two pairs
+--   PackedTable n p bs qs   p is P for n hours, and bs and qs are the bytes of p coefficients and p/2 codes
 use mathlib.Core.Path.{_≡_}
 use mathlib.Core.List.{List}
 use Prim.Native.Nat.{ℕ, _+_, _*_, _/_, _≤_, _<_}

@@ -3,6 +3,7 @@ use mathlib.Core.Path.{refl}
 use native.Mathlib.Omega.{arith}
 use borrow.Author.Needs.{needs}
 use Rattle.signed.proofs.Widths.{reads-back}
+use Rattle.walking.proofs.Lending.{ends-within}
 use Rattle.walking.specs.Walking.{WalkedFrom}
 use Rattle.walking.specs.declared.Walked.{Walked}
 use Rattle.walking.specs.declared.Towards.{Towards}
@@ -25,42 +26,20 @@ came-last : (c : tie.After-latest) →
     (Walked.Came (e .0) (e .1 .0)))
 came-last c = rw (c .latest .given .1) at (c .before .before .walk2 .ensures)
 
-walk-requires : tie.Need-walk-requires
-walk-requires c κs = search needs
-
-enum-known-i : tie.Need-enum-known-i
-enum-known-i c = search needs
-
-enum-known-reading : tie.Need-enum-known-reading
-enum-known-reading c = search needs
-
-walk-requires-2 : tie.Need-walk-requires-2
-walk-requires-2 c κs = search needs
-
-enum-known-i-2 : tie.Need-enum-known-i-2
-enum-known-i-2 c = search needs
-
-enum-known-latest : tie.Need-enum-known-latest
-enum-known-latest c = search needs
-
 add-walked : tie.Need-add-walked
 add-walked c =
     let c5 = c .before .before .before .before .before in
     let start = c5 .before .before .before .before in
-    omega (arith, came-first c5 .few _ _ refl, start .pre .1)
+    omega (arith, came-first c5 .few _ _ refl, ends-within (start .pre .0 .0), start .pre .1)
 
 add-walked-2 : tie.Need-add-walked-2
 add-walked-2 c =
     let c1 = c .before in
     let c5 = c1 .before .before .before .before in
     let start = c5 .before .before .before .before in
+    let first = ends-within (start .pre .0 .0) in
+    let last = ends-within (start .pre .0 .1) in
     omega (arith, came-first c5 .few _ _ refl, came-last c1 .few _ _ refl, start .pre .1)
-
-low-of-requires : tie.Need-low-of-requires
-low-of-requires c κs = search needs
-
-high-of-requires : tie.Need-high-of-requires
-high-of-requires c κs = search needs
 
 returns : tie.Need-returns
 returns c =
@@ -86,17 +65,6 @@ returns-3 c =
 pub found-spec : {M : Type 1} → statement M
 found-spec =
     tie.close
-    (tie.spec
-    walk-requires
-    enum-known-i
-    enum-known-reading
-    walk-requires-2
-    enum-known-i-2
-    enum-known-latest
-    add-walked
-    add-walked-2
-    low-of-requires
-    high-of-requires
-    returns
-    returns-2
+    (tie.spec (λ c κs. search needs) (λ c. search needs) (λ c. search needs) (λ c κs. search needs) (λ c. search needs)
+    (λ c. search needs) add-walked add-walked-2 (λ c κs. search needs) (λ c κs. search needs) returns returns-2
     returns-3)

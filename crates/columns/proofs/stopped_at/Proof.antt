@@ -6,6 +6,7 @@ use native.Mathlib.Omega.{arith}
 use lib.Pow.{pow-pos}
 use borrow.Author.Needs.{needs}
 use Rattle.om3.specs.Series.{levels}
+use Rattle.walking.proofs.Lending.{whole-lent}
 use Rattle.columns.proofs.Depths as depths
 use Rattle.columns.proofs.Stopping as laws
 use Rattle.columns.proofs.stopped_at.Statement.{statement}
@@ -40,7 +41,7 @@ stopped-over-requires c κs =
     let start = startOf (c .before) in
     let a = start .args in
     let some : 1 ≤ a .p / c .before .power .result = omega (arith, covered c, pow-pos (levels (a .n) - a .d)) in
-    (start .pre .0, (start .pre .1, some))
+    (start .pre .0, (whole-lent _ _ _ (start .pre .1) _, some))
 
 returns-3 : tie.Need-returns-3
 returns-3 c =

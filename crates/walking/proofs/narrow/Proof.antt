@@ -8,7 +8,7 @@ use borrow.Author.Needs.{needs}
 use Rattle.node.specs.declared.Halves.{Halves}
 use Rattle.walking.specs.Nodes.{openedOf}
 use Rattle.walking.specs.Visiting.{SteppedDown}
-use Rattle.walking.proofs.Lending.{steps, small-number}
+use Rattle.walking.proofs.Lending.{steps, small-number, ends-within}
 use Rattle.walking.proofs.Narrowing as laws
 use Rattle.walking.proofs.Narrowing.{CameTo}
 use Rattle.walking.proofs.narrow.Statement.{statement}
@@ -30,7 +30,7 @@ came c = rw (c .before .copy-node .ensures) at (c .loop .inv)
 
 -- The node that the visit is at ends at an hour that is counted without overflow.
 ends-early : (c : tie.At-loop Inv-loop μ-loop) → c .loop .at .from .0 + c .loop .at .hours < 2 ^ 64
-ends-early c = omega (arith, c .loop .inv .below .codes, c .before .before .before .good)
+ends-early c = omega (arith, ends-within (c .loop .inv .below))
 
 -- It is opened, so it covers two hours or more, and its number can be doubled.
 opens : (c : tie.Then1 Inv-loop μ-loop) →
@@ -38,15 +38,21 @@ opens : (c : tie.Then1 Inv-loop μ-loop) →
     openedOf (start .args .x) (start .args .stop) (c .before .before .loop .at) ≡ true)
 opens c = sym (c .before .is-opened .ensures) ∙ c .if1 .taken
 
+wide : (c : tie.Then1 Inv-loop μ-loop) →
+    (let here = c .before .before in
+    here .before .before .before .args .stop < here .loop .at .hours)
+wide c =
+    let here = c .before .before in
+    let a = here .before .before .before .args in
+    laws.opened-wide (a .x) (a .stop) (here .loop .at) (opens c)
+
 two-hours : (c : tie.Then1 Inv-loop μ-loop) → 2 ≤ c .before .before .loop .at .hours
 two-hours c =
-    let start = c .before .before .before .before .before in
-    laws.opened-hours (start .args .x) (start .args .stop) (c .before .before .loop .at) (start .pre .1 .1) (opens c)
+    let here = c .before .before in
+    omega (arith, wide c, here .before .before .before .pre .1 .1)
 
 small : (c : tie.Then1 Inv-loop μ-loop) → 2 * c .before .before .loop .at .id .0 < 2 ^ 63
-small c =
-    let here = c .before .before in
-    omega (arith, small-number _ _ _ (here .loop .inv .below) (two-hours c), here .before .before .before .good)
+small c = omega (arith, small-number (c .before .before .loop .inv .below))
 
 -- Where a step, the halves that it gave, and both halves as nodes come from: a node that is opened.
 abbrev steps-from : tie.After-is-pair Inv-loop μ-loop → tie.Then1 Inv-loop μ-loop
@@ -75,9 +81,6 @@ halves c =
     let c3 = c .before .before .before in
     rw (c3 .halves .given .1) at (stepped (c3 .before .before))
 
-copy-node-requires : tie.Need-copy-node-requires Inv-loop μ-loop
-copy-node-requires c κs = search needs
-
 loop-holds : tie.Need-loop-holds Inv-loop μ-loop
 loop-holds c =
     let start = c .before .before in
@@ -86,19 +89,10 @@ loop-holds c =
 is-opened-requires : tie.Need-is-opened-requires Inv-loop μ-loop
 is-opened-requires c κs = ends-early c
 
-is-pair-requires : tie.Need-is-pair-requires Inv-loop μ-loop
-is-pair-requires c κs = search needs
-
 step-requires : tie.Need-step-requires Inv-loop μ-loop
 step-requires c κs =
     let then = steps-from c in
-    rw (c .is-pair .ensures) (steps _ _ _ (then .before .before .loop .inv .below) (two-hours then))
-
-enum-known-halves : tie.Need-enum-known-halves Inv-loop μ-loop
-enum-known-halves c = search needs
-
-enum-told : tie.Need-enum-told Inv-loop μ-loop
-enum-told c = search needs
+    rw (c .is-pair .ensures) (steps (then .before .before .loop .inv .below) (wide then) (two-hours then))
 
 returns : tie.Need-returns Inv-loop μ-loop
 returns c =
@@ -119,7 +113,7 @@ right-half-requires c κs =
 add-opened : tie.Need-add-opened Inv-loop μ-loop
 add-opened c =
     let here = opened-at c .before .before in
-    omega (arith, here .loop .inv .room, here .loop .inv .below .some, here .before .before .before .good)
+    omega (arith, here .loop .inv .room)
 
 touches-requires : tie.Need-touches-requires Inv-loop μ-loop
 touches-requires c κs = rw (c .right-half .ensures) (omega (arith, ends-early (opened-at c .before .before)))
@@ -173,25 +167,6 @@ returns-3 c =
 pub narrow-spec : {M : Type 1} → statement M
 narrow-spec =
     tie.close
-    (tie.spec
-    Inv-loop
-    μ-loop
-    copy-node-requires
-    loop-holds
-    is-opened-requires
-    is-pair-requires
-    step-requires
-    enum-known-halves
-    enum-told
-    returns
-    left-half-requires
-    right-half-requires
-    add-opened
-    touches-requires
-    touches-requires-2
-    returns-2
-    loop-less
-    loop-again
-    loop-less-2
-    loop-again-2
-    returns-3)
+    (tie.spec Inv-loop μ-loop (λ c κs. search needs) loop-holds is-opened-requires (λ c κs. search needs) step-requires
+    (λ c. search needs) (λ c. search needs) returns left-half-requires right-half-requires add-opened touches-requires
+    touches-requires-2 returns-2 loop-less loop-again loop-less-2 loop-again-2 returns-3)

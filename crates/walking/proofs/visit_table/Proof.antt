@@ -4,7 +4,7 @@ use native.Mathlib.Omega.{arith}
 use lib.IntN.{pos}
 use lib.ListN.{getD}
 use borrow.Author.Needs.{needs}
-use Rattle.om3.proofs.Levels.{2≤P, P-even}
+use Rattle.om3.proofs.Levels.{P-most}
 use Rattle.node.specs.declared.Root.{Root}
 use Rattle.node.specs.Steps.{rootOf}
 use Rattle.examining.proofs.AtRoot.{root-read}
@@ -25,12 +25,10 @@ root-told c g =
     (c .before .root-range-arg2 .given) (c .root-range .ensures) g
 
 shared-slice-copy-out-root-range : tie.Need-shared-slice-copy-out-root-range
-shared-slice-copy-out-root-range c = omega (arith, c .before .pre .1 .0 .coefficients, 2≤P (c .before .args .n))
+shared-slice-copy-out-root-range c = omega (arith, c .before .pre .1 .0 .root)
 
 shared-slice-copy-out-root-range-2 : tie.Need-shared-slice-copy-out-root-range-2
-shared-slice-copy-out-root-range-2 c =
-    let start = c .before .before in
-    omega (arith, start .pre .1 .0 .coefficients, 2≤P (start .args .n))
+shared-slice-copy-out-root-range-2 c = omega (arith, c .before .before .pre .1 .0 .root)
 
 returns : tie.Need-returns
 returns c = laws.root-unsound _ _ _ _ _ (root-told (c .before .before) (c .enum-told .given .1))
@@ -41,11 +39,10 @@ visit-requires c κs =
     let root = rooted .before .before in
     let start = startOf root in
     let n = start .args .n in
-    let table = start .pre .1 .0 in
     let told = root-told root (rooted .root .given .1) in
     rw (start .pre .0) (
-      laws.top-below n _ _ (start .args .x) (start .args .stop) _ told table,
-      (omega (arith, table .codes, P-even n), start .pre .1 .1),
+      laws.top-below n _ _ (start .args .x) (start .args .stop) _ told (start .pre .1 .0),
+      (omega (arith, P-most n), start .pre .1 .1),
     )
 
 returns-2 : tie.Need-returns-2

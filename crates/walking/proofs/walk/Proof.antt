@@ -7,7 +7,7 @@ use borrow.Author.Needs.{needs}
 use Rattle.signed.proofs.Widths.{reads-back}
 use Rattle.node.specs.declared.Halves.{Halves}
 use Rattle.walking.specs.Visiting.{SteppedDown}
-use Rattle.walking.proofs.Lending.{steps, small-number}
+use Rattle.walking.proofs.Lending.{steps, small-number, ends-within}
 use Rattle.walking.proofs.Walking as laws
 use Rattle.walking.proofs.Walking.{CameTo}
 use Rattle.walking.proofs.walk.Statement.{statement}
@@ -21,9 +21,7 @@ abbrev μ-loop : tie.MeasureT-loop
 
 -- The number of a node of two hours or more can be doubled.
 small : (c : tie.Then1 Inv-loop μ-loop) → 2 * c .before .before .loop .at .id .0 < 2 ^ 63
-small c =
-    let here = c .before .before in
-    omega (arith, small-number _ _ _ (here .loop .inv .below) (c .if1 .taken), here .before .before .good)
+small c = omega (arith, small-number (c .before .before .loop .inv .below))
 
 -- Where a step, and the halves that it gave, come from: a node of two hours or more.
 abbrev steps-from : tie.After-is-pair Inv-loop μ-loop → tie.Then1 Inv-loop μ-loop
@@ -50,19 +48,10 @@ halves c = rw (c .halves .given .1) at (stepped (c .before .before))
 loop-holds : tie.Need-loop-holds Inv-loop μ-loop
 loop-holds c = laws.at-start _ _ _ _ _ (c .before .pre)
 
-is-pair-requires : tie.Need-is-pair-requires Inv-loop μ-loop
-is-pair-requires c κs = search needs
-
 step-requires : tie.Need-step-requires Inv-loop μ-loop
 step-requires c κs =
     let then = steps-from c in
-    rw (c .is-pair .ensures) (steps _ _ _ (then .before .before .loop .inv .below) (then .if1 .taken))
-
-enum-known-halves : tie.Need-enum-known-halves Inv-loop μ-loop
-enum-known-halves c = search needs
-
-enum-told : tie.Need-enum-told Inv-loop μ-loop
-enum-told c = search needs
+    rw (c .is-pair .ensures) (steps (then .before .before .loop .inv .below) (then .if1 .taken) (then .if1 .taken))
 
 returns : tie.Need-returns Inv-loop μ-loop
 returns c =
@@ -75,10 +64,7 @@ returns c =
 add-levels : tie.Need-add-levels Inv-loop μ-loop
 add-levels c =
     let here = split-at (c .before) .before .before in
-    omega (arith, here .loop .inv .room, here .before .before .pre .codes, here .before .before .good)
-
-takes-left-requires : tie.Need-takes-left-requires Inv-loop μ-loop
-takes-left-requires c κs = search needs
+    omega (arith, here .loop .inv .room, ends-within (here .before .before .pre))
 
 left-half-requires : tie.Need-left-half-requires Inv-loop μ-loop
 left-half-requires c κs = small (split-at (c .before .before .before))
@@ -99,8 +85,7 @@ loop-again c =
 right-half-requires : tie.Need-right-half-requires Inv-loop μ-loop
 right-half-requires c κs =
     let then = split-at (c .before .before .before) in
-    let here = then .before .before in
-    (small then, omega (arith, here .loop .inv .below .codes, here .before .before .good))
+    (small then, omega (arith, ends-within (then .before .before .loop .inv .below)))
 
 loop-less-2 : tie.Need-loop-less-2 Inv-loop μ-loop
 loop-less-2 c =
@@ -115,9 +100,6 @@ loop-again-2 c =
     rw (c .right-half .ensures)
     (laws.came-right _ _ _ _ _ _ _ (then .before .before .loop .inv) (then .if1 .taken) _ _ (halves c4) takes)
 
-low-of-requires : tie.Need-low-of-requires Inv-loop μ-loop
-low-of-requires c κs = search needs
-
 returns-2 : tie.Need-returns-2 Inv-loop μ-loop
 returns-2 c =
     let c2 = c .before .before in
@@ -129,22 +111,6 @@ returns-2 c =
 pub walk-spec : {M : Type 1} → statement M
 walk-spec =
     tie.close
-    (tie.spec
-    Inv-loop
-    μ-loop
-    loop-holds
-    is-pair-requires
-    step-requires
-    enum-known-halves
-    enum-told
-    returns
-    add-levels
-    takes-left-requires
-    left-half-requires
-    loop-less
-    loop-again
-    right-half-requires
-    loop-less-2
-    loop-again-2
-    low-of-requires
-    returns-2)
+    (tie.spec Inv-loop μ-loop loop-holds (λ c κs. search needs) step-requires (λ c. search needs) (λ c. search needs)
+    returns add-levels (λ c κs. search needs) left-half-requires loop-less loop-again right-half-requires loop-less-2
+    loop-again-2 (λ c κs. search needs) returns-2)
