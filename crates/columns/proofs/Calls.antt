@@ -1,12 +1,12 @@
 -- Each answer of the calls: the refusal of the check that decides, or the column's own answer. Assumes nothing.
 use Rattle.kit.proofs.{_≡_, List, [], _∷_, ℕ, ℤ}
 use Rattle.words.specs.declared.{Column.Column, Edges.Edges, Finished.Finished, Refusal.Refusal, Stopped.Stopped}
-use Rattle.words.specs.declared.{Taking.Taking}
-use Rattle.om3.specs.Document.{levels, Table, lent, Check, passes, inOrder, answerBy, checkDepth, column, openedNodes}
-use Rattle.om3.specs.Document.{examineColumn, stopped, answer, finishedNodes, finished}
+use Rattle.om3.specs.Document.{levels, Table, lent, Check, passes, refuses, inOrder, answerBy, checkDepth, column}
+use Rattle.om3.specs.Document.{openedNodes, examineColumn, stopped, answer, finishedNodes, finished}
 use Rattle.om3.proofs.Examined.{then-passes}
 use Rattle.columns.specs.Drawing.{StoppedAt, FinishedOver}
 use Rattle.sizes.specs.Lent.{lentCheck}
+use Rattle.sizes.proofs.Lent.{lent-refuses}
 use Rattle.windows.specs.Windows.{windowCheck}
 use Rattle.windows.proofs.Windows.{edges-passed}
 use Rattle.columns.proofs.Checking as checking
@@ -25,10 +25,9 @@ module _ (n : ℕ) (cs : List ℤ) (ks : List ℕ) (a b w k : ℕ) where
   abbrev four : Check
   four = examineColumn l T (column a b w k) n (finishedNodes l T (column a b w k))
 
-  pub finished-lent : (why : Refusal) → Taking.Refused why ≡ answerBy Taking.Refused (lentCheck n T) Taking.Taken
-      → Finished.Refused why ≡ finished n T a b w k
+  pub finished-lent : (why : Refusal) → lentCheck n T ≡ refuses why → Finished.Refused why ≡ finished n T a b w k
   unfolding finished
-  finished-lent why e = rw (checking.lent-refused n T a b w k (four ∷ []) why e)
+  finished-lent why e = rw (lent-refuses n T _ why e)
 
   module _ (lends : lentCheck n T ≡ passes) where
     pub finished-window : (why : Refusal) → Edges.Refused why ≡ told → Finished.Refused why ≡ finished n T a b w k
@@ -47,10 +46,9 @@ module _ (n : ℕ) (cs : List ℤ) (ks : List ℕ) (a b w k : ℕ) where
     abbrev examined : Check
     examined = examineColumn l T (column a b w k) n (openedNodes l T (column a b w k) d)
 
-    pub stopped-lent : (why : Refusal) → Taking.Refused why ≡ answerBy Taking.Refused (lentCheck n T) Taking.Taken
-        → Stopped.Refused why ≡ stopped n T a b w k d
+    pub stopped-lent : (why : Refusal) → lentCheck n T ≡ refuses why → Stopped.Refused why ≡ stopped n T a b w k d
     unfolding stopped
-    stopped-lent why e = rw (checking.lent-refused n T a b w k (checkDepth n d ∷ examined ∷ []) why e)
+    stopped-lent why e = rw (lent-refuses n T _ why e)
 
     module _ (lends : lentCheck n T ≡ passes) where
       pub stopped-window : (why : Refusal) → Edges.Refused why ≡ told → Stopped.Refused why ≡ stopped n T a b w k d

@@ -1,31 +1,25 @@
--- The checks of the column calls, in the parts in which the code makes them. Assumes nothing.
-use Rattle.kit.proofs.{_≡_, ap, _∙_, List, [], _∷_, ℕ}
-use Rattle.words.specs.declared.{Refusal.Refusal, Edges.Edges, Taking.Taking}
-use Rattle.om3.specs.Document.{Table, Check, passes, refuses, andThen, inOrder, answerBy, checkHours, checkRoom}
-use Rattle.om3.specs.Document.{tableShort, checkWindow, checkColumn, column}
-use Rattle.om3.proofs.{Examined.in-order-append, Taken.refused-refuses}
+-- The checks of the column calls, in the parts in which the code makes them: 1 and 3, then 5 and 6. Assumes nothing.
+use Rattle.kit.proofs.{_≡_, _∙_, List, [], _∷_, ℕ}
+use Rattle.words.specs.declared.{Refusal.Refusal, Edges.Edges}
+use Rattle.om3.specs.Document.{Table, Check, passes, refuses, andThen, inOrder, checkHours, checkRoom, tableShort}
+use Rattle.om3.specs.Document.{checkWindow, checkColumn, column}
+use Rattle.om3.proofs.Examined.{in-order-append}
 use Rattle.sizes.specs.Lent.{lentCheck}
+use Rattle.sizes.proofs.Lent.{lent-passes}
 use Rattle.windows.specs.Windows.{windowCheck}
 use Rattle.windows.proofs.Windows.{told, edges-refused}
 
--- The checks of a whole call, in these parts and then the rest: the first that refuses decides.
-module _ (n : ℕ) (t : Table) (a b w k : ℕ) (rest : List Check) where
+-- Checks 1 and 3 have passed: 5 and 6 refuse, or the rest decides.
+module _ (n : ℕ) (t : Table) (a b w k : ℕ) (rest : List Check) (lends : lentCheck n t ≡ passes) where
   abbrev whole : Check
   whole =
       inOrder (checkHours n ∷ checkRoom (tableShort n t) ∷ checkWindow n a b ∷ checkColumn w k ∷ rest)
 
-  parted : whole ≡ andThen (lentCheck n t) (andThen (windowCheck n a b w k) (inOrder rest))
-  parted =
-      in-order-append (checkHours n ∷ checkRoom (tableShort n t) ∷ []) _
-      ∙ ap (andThen (lentCheck n t)) (in-order-append (checkWindow n a b ∷ checkColumn w k ∷ []) _)
+  windowed : whole ≡ andThen (windowCheck n a b w k) (inOrder rest)
+  windowed = lent-passes n t _ lends ∙ in-order-append (checkWindow n a b ∷ checkColumn w k ∷ []) rest
 
-  pub lent-refused : (why : Refusal) → Taking.Refused why ≡ answerBy Taking.Refused (lentCheck n t) Taking.Taken
-      → whole ≡ refuses why
-  lent-refused why e = parted ∙ rw (refused-refuses (lentCheck n t) why e)
+  pub window-refused : (why : Refusal) → Edges.Refused why ≡ told n a b w k → whole ≡ refuses why
+  window-refused why e = windowed ∙ rw (edges-refused (windowCheck n a b w k) (column a b w k) why e)
 
-  module _ (lends : lentCheck n t ≡ passes) where
-    pub window-refused : (why : Refusal) → Edges.Refused why ≡ told n a b w k → whole ≡ refuses why
-    window-refused why e = parted ∙ rw (lends, edges-refused (windowCheck n a b w k) (column a b w k) why e)
-
-    pub window-passed : windowCheck n a b w k ≡ passes → whole ≡ inOrder rest
-    window-passed e = parted ∙ rw (lends, e)
+  pub window-passed : windowCheck n a b w k ≡ passes → whole ≡ inOrder rest
+  window-passed e = windowed ∙ rw e

@@ -1,15 +1,14 @@
 -- A finished column, for each answer of the visit: a column without an inside node has no reading, and else the walks
 -- begin at its first and at its last inside node. Assumes nothing.
 use Rattle.kit.proofs.{_≡_, refl, sym, ap, _∙_, false, List, [], _∷_, _++_, map, map-append, append-nil, flatMap, ℕ}
-use Rattle.kit.proofs.{_+_, _-_, _*_, _≤_, _<_, le-refl, arith, ℤ, leb, pow-mono, le-leb, lt-leb}
-use Rattle.words.specs.{largestHours}
+use Rattle.kit.proofs.{_+_, _-_, _*_, _≤_, _<_, le-refl, arith, ℤ, leb, le-leb, lt-leb}
 use Rattle.words.specs.declared.{Answer.Answer, Column.Column, Finished.Finished, NodeId.NodeId, Range.Range}
 use Rattle.words.specs.declared.{Refusal.Refusal, Refusal.the-variants.Unsound}
-use Rattle.om3.specs.Document.{lastOf, levels, Node, InTree, number, width, Table, lent, Check, passes, andThen}
-use Rattle.om3.specs.Document.{inOrder, answerBy, soundNode, examine, examineNode, examineNodes, examineRoot}
-use Rattle.om3.specs.Document.{openedNodes, countAt, rangeOver, examineColumn, nodesOf, firstWalk, lastWalk}
-use Rattle.om3.specs.Document.{insideNodes, walksFrom, answer, count, finishedNodes}
-use Rattle.om3.proofs.{Levels.P-most, Examined.then-assoc, Examined.in-order-append, Listed.All, NeverRefused.last-in}
+use Rattle.om3.specs.Document.{lastOf, levels, Node, InTree, number, Table, lent, Check, passes, andThen, inOrder}
+use Rattle.om3.specs.Document.{answerBy, soundNode, examine, examineNode, examineNodes, examineRoot, openedNodes}
+use Rattle.om3.specs.Document.{countAt, rangeOver, examineColumn, nodesOf, firstWalk, lastWalk, insideNodes, walksFrom}
+use Rattle.om3.specs.Document.{answer, count, finishedNodes}
+use Rattle.om3.proofs.{Examined.then-assoc, Examined.in-order-append, Listed.All, NeverRefused.last-in}
 use Rattle.om3.proofs.{WithoutHours.none-inside, WithoutHours.none-count}
 use Rattle.om3.proofs.KeptNodes.{NonEmpty, inside-inner, inside-non-empty}
 use Rattle.walking.specs.{Seen.innerOver, Seen.tableSeen, Visiting.StopsAt, Visiting.TableVisited}
@@ -41,7 +40,7 @@ module _ (l n : ℕ) (t : Table) where
       ap (andThen (examineRoot t)) (nodes-append vs us)
       ∙ then-assoc (examineRoot t) (examineNodes l n t vs) (examineNodes l n t us)
 
--- A node of the tree as the code carries it is at its place, and covers no more hours than the largest series has.
+-- A node of the tree as the code carries it is at its place.
 placed : {l : ℕ} (t : Table) (v : Node) → InTree l v → (at : Reached) → at ≡ reachedOf l t v → At l t v at
 placed t v i at e =
     rw e
@@ -49,12 +48,6 @@ placed t v i at e =
       located = record { inTree = i; numbered = refl; begins = refl; covers = refl };
       range = refl;
     })
-
-hours-most : (n : ℕ) (v : Node) → width (levels n) v ≤ largestHours
-unfolding width
-hours-most n v =
-    let less : levels n - v .level ≤ levels n = omega arith in
-    omega (arith, pow-mono less, P-most n)
 
 -- The nodes of an inner range, from what the visit says of them.
 nothing-list : (l : ℕ) (t : Table) (vs : List Node) → Inner.Nothing ≡ innerOver l t vs → vs ≡ []
@@ -88,13 +81,6 @@ module _ (n : ℕ) (t : Table) (x : Column) (range : Range) (first last : Reache
   last-at =
       let i = last-in (levels n) t (N .node) (N .further) (all-held .0 .inTree) (all-held .1) in
       placed t (lastOf (N .node) (N .further)) i last (N .ends)
-
-  pub first-hours : first .hours ≤ largestHours
-  first-hours = omega (arith, ap (λ (r : Reached). r .hours) (N .begins), hours-most n (N .node))
-
-  pub last-hours : last .hours ≤ largestHours
-  last-hours =
-      omega (arith, ap (λ (r : Reached). r .hours) (N .ends), hours-most n (lastOf (N .node) (N .further)))
 
 module _ (n : ℕ) (cs : List ℤ) (ks : List ℕ) (x : Column) where
   abbrev l : ℕ
@@ -144,7 +130,7 @@ module _ (n : ℕ) (cs : List ℤ) (ks : List ℕ) (x : Column) where
           nodes-list l T x range first last (insideNodes l T x) refl (sym e ∙ inner-seen)
 
       pub nodes-below : (range : Range) (first last : Reached) → s .inner ≡ Inner.Nodes range first last
-          → Below cs ks first × Below cs ks last
+          → Below 1 cs ks first × Below 1 cs ks last
       nodes-below range first last e = rw e at (W .below s refl)
 
       count-is : 1 + 2 * s .opened ≡ countAt l T x l

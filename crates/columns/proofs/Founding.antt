@@ -1,8 +1,7 @@
 -- The walks from the first and from the last inner node, for each of their answers. Assumes nothing.
 use Rattle.kit.proofs.{_≡_, refl, sym, List, ℕ, _+_, _-_, arith, ℤ}
-use Rattle.words.specs.{lowOf, highOf}
+use Rattle.words.specs.{lowOf, highOf, declared.Refusal.the-variants.Unsound}
 use Rattle.words.specs.declared.{Answer.Answer, Finished.Finished, NodeId.NodeId, Range.Range, Reading.Reading}
-use Rattle.words.specs.declared.{Refusal.the-variants.Unsound}
 use Rattle.walking.specs.Walking.{WalkedFrom}
 use Rattle.walking.specs.declared.{Walked.Walked, Reached.Reached, Towards.Towards}
 use Rattle.columns.specs.Drawing.{Answers, FoundFrom}

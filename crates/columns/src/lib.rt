@@ -1,4 +1,5 @@
 // What the tablet draws: a column of a window, stopped at a depth or finished.
+use sizes::Lending;
 use walking::Inner;
 use walking::Reached;
 use walking::Towards;
@@ -12,16 +13,16 @@ use words::Range;
 use words::Refusal;
 use words::Stopped;
 use words::Summary;
-use words::Taking;
 use words::Timestamp;
 ghost use mathlib.Core.Path.{_≡_};
 ghost use Prim.Native.Nat.{_+_, _*_, _≤_};
 ghost use Rattle.words.specs.Constants.{largestHours};
+ghost use Rattle.om3.specs.Series.{levels, P};
 ghost use Rattle.om3.specs.Table.{lent};
 ghost use Rattle.om3.specs.Stopped.{stopped as stoppedOf};
 ghost use Rattle.om3.specs.Finished.{finished as finishedOf};
 ghost use Rattle.sizes.specs.Lent.{TableLent};
-ghost use Rattle.walking.specs.Nodes.{Below};
+ghost use Rattle.walking.specs.Nodes.{LentTo, Below};
 ghost use Rattle.columns.specs.Drawing.{innerRange};
 ghost use Rattle.columns.specs.Drawing.{StoppedOver, StoppedAt, FoundFrom, FinishedOver};
 
@@ -50,10 +51,19 @@ fn count_of(opened: usize) -> usize
     1 + 2 * opened
 }
 
-// A column of a table, stopped at nodes that cover `stop` hours, at least 1. Needs the buffers lent. A column without
-// an hour is answered with the table not examined.
-pub fn stopped_over(n: usize, coefficients: &[i32], codes: &[u8], x: Column, stop: usize) -> Stopped
-    requires { ⌜ TableLent n (now coefficients) (now codes) ⌝ }
+// A column of a table of n hours and p = P places, stopped at nodes that cover `stop` hours, at least 1. Needs the root
+// values, and the details and codes that nodes of more hours have. A column without an hour is answered with the table
+// not examined.
+pub fn stopped_over(
+    n: usize,
+    p: usize,
+    coefficients: &[i32],
+    codes: &[u8],
+    x: Column,
+    stop: usize,
+) -> Stopped
+    requires { ⌜ p ≡ P n ⌝ }
+    requires { ⌜ LentTo stop (levels n) (now coefficients) (now codes) ⌝ }
     requires { ⌜ 1 ≤ stop ⌝ }
     ensures { λ r. ⌜ StoppedOver n (now (coefficients .entry)) (now (codes .entry)) x stop r ⌝ }
 {
@@ -64,7 +74,7 @@ pub fn stopped_over(n: usize, coefficients: &[i32], codes: &[u8], x: Column, sto
             count: NO_NODES,
         };
     }
-    match walking::visit_table(n, coefficients, codes, x, stop) {
+    match walking::visit_table(n, p, coefficients, codes, x, stop) {
         Visited::Unsound(i) => Stopped::Refused(Refusal::Unsound(i)),
         Visited::Through(seen) => {
             let outer = seen.outer;
@@ -80,21 +90,29 @@ pub fn stopped_over(n: usize, coefficients: &[i32], codes: &[u8], x: Column, sto
     }
 }
 
-// Check 7, and then the column stopped at depth d: its nodes of level d cover P / 2^d hours. Needs the buffers lent.
-fn stopped_at(n: usize, coefficients: &[i32], codes: &[u8], x: Column, d: usize) -> Stopped
+// Check 7, and then the column stopped at depth d: its nodes of level d cover P / 2^d hours, p being P. Needs the
+// buffers lent.
+fn stopped_at(
+    n: usize,
+    p: usize,
+    coefficients: &[i32],
+    codes: &[u8],
+    x: Column,
+    d: usize,
+) -> Stopped
+    requires { ⌜ p ≡ P n ⌝ }
     requires { ⌜ TableLent n (now coefficients) (now codes) ⌝ }
     ensures { λ r. ⌜ StoppedAt n (now (coefficients .entry)) (now (codes .entry)) x d r ⌝ }
 {
     if words::LARGEST_LEVEL < d {
         return Stopped::Refused(Refusal::TooDeep);
     }
-    let p = sizes::places(n);
     let nodes = sizes::power(d);
     if p < nodes {
         return Stopped::Refused(Refusal::TooDeep);
     }
     let stop = p / nodes;
-    stopped_over(n, coefficients, codes, x, stop)
+    stopped_over(n, p, coefficients, codes, x, stop)
 }
 
 // Column k of [a, b) in w columns, stopped at depth d. Refusals in the order 1, 3, 5, 6, 7, 4.
@@ -110,17 +128,17 @@ pub fn stopped(
 ) -> Stopped
     ensures { λ r. ⌜ r ≡ stoppedOf n (lent (now (coefficients .entry)) (now (codes .entry))) (a .0) (b .0) w k d ⌝ }
 {
-    if let Taking::Refused(why) = sizes::check_lent(n, coefficients, codes) {
-        return Stopped::Refused(why);
-    }
-    match windows::column_of(n, a, b, w, k) {
-        Edges::Refused(why) => Stopped::Refused(why),
-        Edges::Hours(x) => stopped_at(n, coefficients, codes, x, d),
+    match sizes::check_lent(n, coefficients, codes) {
+        Lending::Refused(why) => Stopped::Refused(why),
+        Lending::Places(p) => match windows::column_of(n, a, b, w, k) {
+            Edges::Refused(why) => Stopped::Refused(why),
+            Edges::Hours(x) => stopped_at(n, p, coefficients, codes, x, d),
+        },
     }
 }
 
 // A column whose first and last inner node these are: the walks to its first and to its last reading. Needs both
-// nodes, of at most 16,384 hours, with all below them, in the lent buffers, and a count of at most 32,768. [forms 7]
+// nodes to be of a table that is lent down to the pairs, and a count of at most 32,768. [forms 7]
 fn found(
     n: usize,
     coefficients: &[i32],
@@ -130,8 +148,8 @@ fn found(
     last: Reached,
     count: usize,
 ) -> Finished
-    requires { ⌜ Below (now coefficients) (now codes) first × Below (now coefficients) (now codes) last ⌝ }
-    requires { ⌜ (first .hours ≤ largestHours) × (last .hours ≤ largestHours) × (count ≤ 2 * largestHours) ⌝ }
+    requires { ⌜ Below 1 (now coefficients) (now codes) first × Below 1 (now coefficients) (now codes) last ⌝ }
+    requires { ⌜ count ≤ 2 * largestHours ⌝ }
     ensures { λ r. ⌜ FoundFrom n (now (coefficients .entry)) (now (codes .entry)) range first last count r ⌝ }
 {
     match walking::walk(n, coefficients, codes, Towards::First, first) {
@@ -159,9 +177,10 @@ fn found(
     }
 }
 
-// A finished column of a table. Needs the buffers lent. A column without an hour is answered with the table not
-// examined.
-pub fn finished_over(n: usize, coefficients: &[i32], codes: &[u8], x: Column) -> Finished
+// A finished column of a table of n hours and p = P places. Needs the buffers lent. A column without an hour is
+// answered with the table not examined.
+pub fn finished_over(n: usize, p: usize, coefficients: &[i32], codes: &[u8], x: Column) -> Finished
+    requires { ⌜ p ≡ P n ⌝ }
     requires { ⌜ TableLent n (now coefficients) (now codes) ⌝ }
     ensures { λ r. ⌜ FinishedOver n (now (coefficients .entry)) (now (codes .entry)) x r ⌝ }
 {
@@ -171,7 +190,7 @@ pub fn finished_over(n: usize, coefficients: &[i32], codes: &[u8], x: Column) ->
             count: NO_NODES,
         };
     }
-    match walking::visit_table(n, coefficients, codes, x, 1) {
+    match walking::visit_table(n, p, coefficients, codes, x, 1) {
         Visited::Unsound(i) => Finished::Refused(Refusal::Unsound(i)),
         Visited::Through(seen) => {
             let nodes = seen.inner;
@@ -207,11 +226,11 @@ pub fn finished(
 ) -> Finished
     ensures { λ r. ⌜ r ≡ finishedOf n (lent (now (coefficients .entry)) (now (codes .entry))) (a .0) (b .0) w k ⌝ }
 {
-    if let Taking::Refused(why) = sizes::check_lent(n, coefficients, codes) {
-        return Finished::Refused(why);
-    }
-    match windows::column_of(n, a, b, w, k) {
-        Edges::Refused(why) => Finished::Refused(why),
-        Edges::Hours(x) => finished_over(n, coefficients, codes, x),
+    match sizes::check_lent(n, coefficients, codes) {
+        Lending::Refused(why) => Finished::Refused(why),
+        Lending::Places(p) => match windows::column_of(n, a, b, w, k) {
+            Edges::Refused(why) => Finished::Refused(why),
+            Edges::Hours(x) => finished_over(n, p, coefficients, codes, x),
+        },
     }
 }

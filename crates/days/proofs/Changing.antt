@@ -2,36 +2,30 @@
 use Rattle.kit.proofs.{_≡_, refl, sym, _∙_, List, [], _∷_, ℕ, _*_, _≤_, _<_, ℤ, le-leb, lt-leb}
 use Rattle.words.specs.{dayHours}
 use Rattle.words.specs.declared.{Answer.Answer, Column.Column, DayChange.DayChange, Finished.Finished, Refusal.Refusal}
-use Rattle.words.specs.declared.{Refusal.the-variants.BadWindow, Taking.Taking}
+use Rattle.words.specs.declared.{Refusal.the-variants.BadWindow}
 use Rattle.om3.specs.Document.{levels, Table, lent, Check, passes, refuses, andThen, inOrder, answerBy, checkHours}
 use Rattle.om3.specs.Document.{checkRoom, tableShort, checkDay, examineColumn, answer, finishedNodes, day, changeOf}
 use Rattle.om3.specs.Document.{dayChange}
-use Rattle.om3.proofs.{Examined.then-passes, Examined.in-order-append, Taken.refused-refuses}
+use Rattle.om3.proofs.Examined.{then-passes}
 use Rattle.sizes.specs.Lent.{lentCheck}
+use Rattle.sizes.proofs.Lent.{lent-refuses, lent-passes}
 use Rattle.columns.specs.Drawing.{finishedAnswer, FinishedOver}
 use Rattle.columns.proofs.Finishing.{not-answered}
 
--- The day's checks.
-module _ (n : ℕ) (t : Table) (d : ℕ) (four : Check) where
+-- Checks 1 and 3 have passed: 5 refuses, or the examination decides.
+module _ (n : ℕ) (t : Table) (d : ℕ) (four : Check) (lends : lentCheck n t ≡ passes) where
   abbrev day-whole : Check
   day-whole = inOrder (checkHours n ∷ checkRoom (tableShort n t) ∷ checkDay n d ∷ four ∷ [])
 
-  day-parted : day-whole ≡ andThen (lentCheck n t) (andThen (checkDay n d) four)
+  day-parted : day-whole ≡ andThen (checkDay n d) four
   unfolding inOrder
-  day-parted =
-      in-order-append (checkHours n ∷ checkRoom (tableShort n t) ∷ []) (checkDay n d ∷ four ∷ [])
-      ∙ rw (then-passes four)
+  day-parted = lent-passes n t (checkDay n d ∷ four ∷ []) lends ∙ rw (then-passes four)
 
-  pub checks-lent : (why : Refusal) → Taking.Refused why ≡ answerBy Taking.Refused (lentCheck n t) Taking.Taken
-      → day-whole ≡ refuses why
-  checks-lent why e = day-parted ∙ rw (refused-refuses (lentCheck n t) why e)
+  checks-late : n ≤ dayHours * d → day-whole ≡ refuses BadWindow
+  checks-late h = day-parted ∙ rw (le-leb n (dayHours * d) h)
 
-  module _ (lends : lentCheck n t ≡ passes) where
-    pub checks-late : n ≤ dayHours * d → day-whole ≡ refuses BadWindow
-    checks-late h = day-parted ∙ rw (lends, le-leb n (dayHours * d) h)
-
-    pub checks-there : dayHours * d < n → day-whole ≡ four
-    checks-there h = day-parted ∙ rw (lends, lt-leb n (dayHours * d) h)
+  checks-there : dayHours * d < n → day-whole ≡ four
+  checks-there h = day-parted ∙ rw (lt-leb n (dayHours * d) h)
 
 -- What the answer of a finished column says of its checks.
 module _ (n : ℕ) (t : Table) (x : Column) where
@@ -54,10 +48,9 @@ module _ (n : ℕ) (cs : List ℤ) (ks : List ℕ) (d : ℕ) where
   abbrev examined-day : Check
   examined-day = examineColumn (levels n) table (day n d) n (finishedNodes (levels n) table (day n d))
 
-  pub day-lent : (why : Refusal) → Taking.Refused why ≡ answerBy Taking.Refused (lentCheck n table) Taking.Taken
-      → DayChange.Refused why ≡ dayChange n table d
+  pub day-lent : (why : Refusal) → lentCheck n table ≡ refuses why → DayChange.Refused why ≡ dayChange n table d
   unfolding dayChange
-  day-lent why e = rw (checks-lent n table d examined-day why e)
+  day-lent why e = rw (lent-refuses n table _ why e)
 
   module _ (lends : lentCheck n table ≡ passes) where
     pub day-late : n ≤ dayHours * d → DayChange.Refused BadWindow ≡ dayChange n table d

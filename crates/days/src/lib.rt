@@ -1,10 +1,10 @@
 // A day: its hours, and what changed between its first reading and its last.
+use sizes::Lending;
 use words::Answer;
 use words::Column;
 use words::DayChange;
 use words::Finished;
 use words::Refusal;
-use words::Taking;
 use words::Timestamp;
 ghost use mathlib.Core.Path.{_≡_};
 ghost use Prim.Native.Nat.{_*_, _≤_, _<_};
@@ -50,19 +50,21 @@ fn change_of(answer: Answer) -> DayChange
 pub fn day_change(n: usize, coefficients: &[i32], codes: &[u8], d: usize) -> DayChange
     ensures { λ r. ⌜ r ≡ dayChange n (lent (now (coefficients .entry)) (now (codes .entry))) d ⌝ }
 {
-    if let Taking::Refused(why) = sizes::check_lent(n, coefficients, codes) {
-        return DayChange::Refused(why);
-    }
-    // A day from 16,384 on has no hour; of any before it, 24·d can be counted.
-    if words::LARGEST_HOURS <= d {
-        return DayChange::Refused(Refusal::BadWindow);
-    }
-    if n <= words::DAY_HOURS * d {
-        return DayChange::Refused(Refusal::BadWindow);
-    }
-    let x = hours_of(n, d);
-    match columns::finished_over(n, coefficients, codes, x) {
-        Finished::Refused(why) => DayChange::Refused(why),
-        Finished::Answered { answer, count: _ } => change_of(answer),
+    match sizes::check_lent(n, coefficients, codes) {
+        Lending::Refused(why) => DayChange::Refused(why),
+        Lending::Places(p) => {
+            // A day from 16,384 on has no hour; of any before it, 24·d can be counted.
+            if words::LARGEST_HOURS <= d {
+                return DayChange::Refused(Refusal::BadWindow);
+            }
+            if n <= words::DAY_HOURS * d {
+                return DayChange::Refused(Refusal::BadWindow);
+            }
+            let x = hours_of(n, d);
+            match columns::finished_over(n, p, coefficients, codes, x) {
+                Finished::Refused(why) => DayChange::Refused(why),
+                Finished::Answered { answer, count: _ } => change_of(answer),
+            }
+        }
     }
 }

@@ -62,8 +62,8 @@ module _ (n : ℕ) (cs : List ℤ) (ks : List ℕ) where
     abbrev all-levels : l - 0 ≡ l
     all-levels = omega arith
 
-    pub root-examined : (r : Verdict) → Examined n cs ks (record { 0 = 1 }) 0 (P n) range r
+    pub root-examined : (p : ℕ) → p ≡ P n → (r : Verdict) → Examined n cs ks (record { 0 = 1 }) 0 p range r
         → checkOf r ≡ examineTable n T
     unfolding examine inOrder
-    root-examined r E =
-        rw (H .isSound) (rw all-levels at (E .below l root (root-located l) root-reached))
+    root-examined p e r E =
+        rw (H .isSound) (rw all-levels at (E .below l root (rw e (root-located l)) root-reached))

@@ -8,6 +8,7 @@ ghost use mathlib.Core.Path.{_≡_};
 ghost use Prim.Native.Nat.{_+_, _*_, _/_, _^_, _≤_, _<_};
 ghost use lib.ListN.{length};
 ghost use Rattle.words.specs.Bounds.{Readings};
+ghost use Rattle.om3.specs.Series.{P};
 ghost use Rattle.om3.specs.Table.{lent};
 ghost use Rattle.om3.specs.Sound.{gapFrom};
 ghost use Rattle.om3.specs.Refusals.{examineTable};
@@ -144,8 +145,9 @@ fn examine_below(
     )
 }
 
-// Examines a whole table of n hours in lent buffers that are long enough for it.
-pub fn examine(n: usize, coefficients: &[i32], codes: &[u8]) -> Verdict
+// Examines a whole table of n hours and p = P places in lent buffers that are long enough for it.
+pub fn examine(n: usize, p: usize, coefficients: &[i32], codes: &[u8]) -> Verdict
+    requires { ⌜ p ≡ P n ⌝ }
     requires { ⌜ TableLent n (now coefficients) (now codes) ⌝ }
     ensures { λ r. ⌜ checkOf r ≡ examineTable n (lent (now (coefficients .entry)) (now (codes .entry))) ⌝ }
 {
@@ -153,6 +155,5 @@ pub fn examine(n: usize, coefficients: &[i32], codes: &[u8]) -> Verdict
     let Root::Sound(range) = root else {
         return Verdict::Unsound(NodeId(0));
     };
-    let p = sizes::places(n);
     examine_below(n, coefficients, codes, NodeId(1), Timestamp(0), p, range)
 }

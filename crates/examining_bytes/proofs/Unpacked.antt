@@ -3,8 +3,7 @@
 use Rattle.kit.proofs.{_≡_, sym, List, ℕ, _+_, _*_, _/_, _≤_, _<_, arith, ℤ, pos, length, getD}
 use Rattle.words.specs.declared.Range.{Range}
 use Rattle.om3.proofs.Lists.{map-up-length, map-up-from-0}
-use Rattle.node.specs.declared.{Halves.Halves, Root.Root}
-use Rattle.node.specs.Steps.{halvesOf, rootOf}
+use Rattle.node.specs.{declared.Halves.Halves, declared.Root.Root, Steps.halvesOf, Steps.rootOf}
 use Rattle.packing.specs.Packing.{coefficientFrom, unpacked}
 
 module _ (bs : List ℕ) where

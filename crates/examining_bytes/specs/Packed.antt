@@ -1,14 +1,13 @@
 -- What examining a table in its bytes promises. Cited by the contracts of this crate and of reading. Assumes nothing.
 --
---   halvesIn cs i range   what the step down from node i answers, with its details as they stand in cs
---   FourExamined          the contract of the examination of a node of four hours and its two pairs
---   PackedTable n bs qs   n is at most 16,384, and bs and qs are the bytes of its P coefficients and P/2 codes
+--   halvesIn cs i range     what the step down from node i answers, with its details as they stand in cs
+--   FourExamined            the contract of the examination of a node of four hours and its two pairs
+--   PackedTable n p bs qs   p is P for n hours, and bs and qs are the bytes of p coefficients and p/2 codes
 use mathlib.Core.Path.{_≡_}
 use mathlib.Core.List.{List}
 use Prim.Native.Nat.{ℕ, _+_, _*_, _/_, _≤_, _<_}
 use lib.IntN.{ℤ, pos}
 use lib.ListN.{length, getD}
-use Rattle.words.specs.Constants.{largestHours}
 use Rattle.words.specs.declared.NodeId.{NodeId}
 use Rattle.words.specs.declared.Range.{Range}
 use Rattle.om3.specs.Series.{P}
@@ -27,7 +26,7 @@ pub record FourExamined (n : ℕ) (cs : List ℤ) (ks : List ℕ) (i : NodeId) (
   pub four : (w : ℕ) → 4 ≤ w → w < 8 → Examined n cs ks i f w range r
 
 -- The parts of an opened record. [record 5, 6]
-pub record PackedTable (n : ℕ) (bs qs : List ℕ) : Type 0 where
-  pub most : n ≤ largestHours
-  pub coefficients : length bs ≡ 3 * P n
-  pub codes : length qs ≡ P n / 2
+pub record PackedTable (n p : ℕ) (bs qs : List ℕ) : Type 0 where
+  pub places : p ≡ P n
+  pub coefficients : length bs ≡ 3 * p
+  pub codes : length qs ≡ p / 2

@@ -92,9 +92,9 @@ fn examine_below(
     examine_below(n, packed, codes, NodeId(right_number), next, half, right)
 }
 
-// Examines a whole table of n hours, of which there are not too many, in its packed coefficients and its codes.
-pub fn examine(n: usize, packed: &[u8], codes: &[u8]) -> Verdict
-    requires { ⌜ PackedTable n (now packed) (now codes) ⌝ }
+// Examines a whole table of n hours and P places in its packed coefficients and its codes.
+pub fn examine(n: usize, places: usize, packed: &[u8], codes: &[u8]) -> Verdict
+    requires { ⌜ PackedTable n places (now packed) (now codes) ⌝ }
     ensures { λ r. ⌜ checkOf r ≡ examineTable n (lent (unpacked (now (packed .entry))) (now (codes .entry))) ⌝ }
 {
     let low = packing::coefficient_at(packed, 0);
@@ -102,7 +102,6 @@ pub fn examine(n: usize, packed: &[u8], codes: &[u8]) -> Verdict
     let Root::Sound(range) = node::root_range(low, high) else {
         return Verdict::Unsound(NodeId(0));
     };
-    let places = sizes::places(n);
     if places < 4 {
         return examining::examine_pair(n, codes, NodeId(1), Timestamp(0), range);
     }

@@ -1,9 +1,8 @@
 -- Laws of the smaller definitions: one level's stretch, joining, the day. Assumes nothing.
 use Rattle.kit.proofs.{_≡_, refl, Bool, true, false, cond, not, _||_, ℕ, suc, _+_, _*_, _^_, _≤_, _<_, two-pow-succ}
 use Rattle.kit.proofs.{arith, leb, pow-mono, leb-true, ltb-false, not-true}
-use Rattle.words.specs.{dayHours}
-use Rattle.words.specs.declared.{Stretch.Stretch, Answer.Answer, Answer.the-variants.NoReading}
-use Rattle.words.specs.declared.{Answer.the-variants.Found}
+use Rattle.words.specs.{dayHours, declared.Stretch.Stretch, declared.Answer.Answer}
+use Rattle.words.specs.{declared.Answer.the-variants.NoReading, declared.Answer.the-variants.Found}
 use Rattle.om3.specs.Document.{badHours, levels, P, short, hasLevel, levelStretch, joined, day}
 use Rattle.om3.proofs.Tests.{and-left, and-right, neither}
 

@@ -2,8 +2,7 @@
 -- stopped at a depth its two ranges and its count, and a day its change. The checks pass, since such a table is long
 -- enough and sound. Assumes nothing.
 use Rattle.kit.proofs.{_≡_, ap, List, [], _∷_, ℕ, _+_, _*_, _≤_, _<_, arith, ℤ, le-ltb}
-use Rattle.words.specs.{dayHours}
-use Rattle.words.specs.declared.{Finished.Finished, Stopped.Stopped, Column.Column}
+use Rattle.words.specs.{dayHours, declared.Finished.Finished, declared.Stopped.Stopped, declared.Column.Column}
 use Rattle.om3.specs.Document.{Series, levels, Table, HasTable, inOrder, checkDepth, column, columnHours}
 use Rattle.om3.specs.Document.{openedNodes, countAt, outer, inner, examineColumn, stopped, answer, count}
 use Rattle.om3.specs.Document.{finishedNodes, finished, day, changeOf, dayChange, lookThrough, Drawn, Ranged}

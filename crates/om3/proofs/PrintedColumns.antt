@@ -2,8 +2,7 @@
 -- own. So each printed line is of an answer, which is what a look through the column's hours gives. Assumes nothing.
 use Rattle.kit.proofs.{_≡_, refl, true, not, _&&_, _||_, List, [], _∷_, map, ℕ, zero, suc, _+_, _<_, arith, leb, ltb}
 use Rattle.kit.proofs.{eqb, ℤ, length, getD, length-map, ltb-true, ltb-false, leb-true, not-false}
-use Rattle.words.specs.{mostColumns, gap}
-use Rattle.words.specs.declared.{Finished.Finished, HourLine.HourLine}
+use Rattle.words.specs.{mostColumns, gap, declared.Finished.Finished, declared.HourLine.HourLine}
 use Rattle.words.specs.declared.Refusal.the-variants.{BadReading, BadWindow, BadColumn}
 use Rattle.om3.specs.Document.{isReading, isGap, Series, levels, hour, tableOf, passes, inOrder, checkHours}
 use Rattle.om3.specs.Document.{checkWindow, checkColumn, column, columnHours, count, finished, lookThrough, Drawn}

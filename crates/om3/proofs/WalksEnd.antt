@@ -2,8 +2,7 @@
 -- ends at the first reading of the node's hours, and the walk to the last at the last: the half taken at each step has
 -- a reading, and its first or last is the node's own. Assumes nothing.
 use Rattle.kit.proofs.{_≡_, refl, sym, ap, _∙_, Bool, true, false, cond, List, ℕ, zero, suc, _+_, _<_, arith, ℤ}
-use Rattle.words.specs.{lowOf}
-use Rattle.words.specs.declared.{Timestamp.Timestamp, Reading.Reading, Answer.Answer}
+use Rattle.words.specs.{lowOf, declared.Timestamp.Timestamp, declared.Reading.Reading, declared.Answer.Answer}
 use Rattle.om3.specs.Document.{hour, hourOf, Node, InTree, left, right, rangeOf, Table, reached, hasReading}
 use Rattle.om3.specs.Document.{walkEnd, towardsFirst, towardsLast, readingAt, readingOf}
 use Rattle.om3.proofs.{Ranges.low-hour, Places.hour-range, Answers.joined-right, LookedThrough.hourAnswer}

@@ -4,7 +4,7 @@ use Rattle.kit.proofs.{_≡_, sym, _∙_, Bool, true, false, _||_, List, _++_, 
 use Rattle.kit.proofs.{take-length}
 use Rattle.words.specs.declared.{NodeId.NodeId, Refusal.Refusal, Unpacking.Unpacking}
 use Rattle.words.specs.declared.Refusal.the-variants as refusal
-use Rattle.om3.specs.Document.{P, lent, Check, refuses, inOrder, short, tableShort, examineTable}
+use Rattle.om3.specs.Document.{lent, Check, refuses, inOrder, short, tableShort, examineTable}
 use Rattle.om3.proofs.{Examined.then-passes, Lent.coefficients-there, Lent.codes-there}
 use Rattle.examining.specs.declared.Verdict.{Verdict}
 use Rattle.examining.specs.Examining.{checkOf}
@@ -14,20 +14,17 @@ use Rattle.reading.specs.Reading.{partsCheck, PartsRead}
 use Rattle.examining_bytes.proofs.Unpacked.{unpacked-length}
 
 -- The lent buffers are cs and ds.
-module _ (n : ℕ) (bs ks : List ℕ) (cs : List ℤ) (ds : List ℕ) (t : PackedTable n bs ks) where
+module _ (n p : ℕ) (bs ks : List ℕ) (cs : List ℤ) (ds : List ℕ) (t : PackedTable n p bs ks) where
   abbrev checks : Check
   checks = partsCheck n bs ks cs ds
-
-  abbrev places : length bs / 3 ≡ P n
-  places = omega (arith, t .coefficients)
 
   refused : (why : Refusal) → checks ≡ refuses why → PartsRead n bs ks cs ds cs ds (Unpacking.Refused why)
   refused why e = record { answer = rw e; coefficients = rw e; codes = rw e }
 
   -- What the code asks of the buffers is check 3.
-  pub lent-short : (b : Bool) → b ≡ (short (length cs) (length bs / 3) || short (length ds) (length bs / 3 / 2))
+  pub lent-short : (b : Bool) → b ≡ (short (length cs) p || short (length ds) (p / 2))
       → b ≡ tableShort n (lent cs ds)
-  lent-short b e = rw places at e
+  lent-short b e = rw (t .places) at e
 
   pub short-table : tableShort n (lent cs ds) ≡ true
       → PartsRead n bs ks cs ds cs ds (Unpacking.Refused refusal.ShortBuffer)
@@ -36,11 +33,11 @@ module _ (n : ℕ) (bs ks : List ℕ) (cs : List ℤ) (ds : List ℕ) (t : Packe
 
   -- Only the table itself is still to examine.
   module _ (room : tableShort n (lent cs ds) ≡ false) where
-    pub coefficients-fit : length bs / 3 ≤ length cs
-    coefficients-fit = rw places (coefficients-there n (lent cs ds) room)
+    pub coefficients-fit : p ≤ length cs
+    coefficients-fit = rw (t .places) (coefficients-there n (lent cs ds) room)
 
     pub codes-fit : length ks ≤ length ds
-    codes-fit = rw (t .codes) (codes-there n (lent cs ds) room)
+    codes-fit = rw (t .codes, t .places) (codes-there n (lent cs ds) room)
 
     examined : checks ≡ examineTable n (lent (unpacked bs) ks)
     unfolding inOrder
@@ -53,11 +50,12 @@ module _ (n : ℕ) (bs ks : List ℕ) (cs : List ℤ) (ds : List ℕ) (t : Packe
 
       pub table-read : r ≡ Verdict.Sound → (cs′ : List ℤ) → cs′ ≡ unpacked bs → (ds′ : List ℕ)
           → ds′ ≡ take (length ks) ks ++ drop (length ks) ds
-          → PartsRead n bs ks cs ds (cs′ ++ drop (length bs / 3) cs) ds′ (Unpacking.Hours n)
+          → PartsRead n bs ks cs ds (cs′ ++ drop p cs) ds′ (Unpacking.Hours n)
       table-read g cs′ c ds′ d =
           let taken = examined ∙ sym (rw g at e) in
+          let thirds : length bs / 3 ≡ p = omega (arith, t .coefficients) in
           record {
             answer = rw taken;
-            coefficients = rw (taken, c, unpacked-length bs);
+            coefficients = rw (taken, c, unpacked-length bs, thirds);
             codes = rw (taken, d, take-length ks);
           }

@@ -4,7 +4,7 @@ use Rattle.kit.proofs.{drop, length-drop, length-take-le, take-take, take-add, 
 use Rattle.words.specs.declared.{Refusal.Refusal, Opening.Opening, Unpacking.Unpacking}
 use Rattle.om3.specs.Document.{P, lent, Check, passes, refuses, inOrder, answerBy, writtenBy, signedFrom, bytesAt}
 use Rattle.om3.specs.Document.{headerSize, hoursIn, coefficientIn, tableIn, openingChecks, unpackingChecks, opening}
-use Rattle.om3.proofs.{Lists.map-up-length, Making.good-some, RecordsOpened.opens-formed, RecordsOpened.asked-unpacked}
+use Rattle.om3.proofs.{Lists.map-up-length, RecordsOpened.opens-formed, RecordsOpened.asked-unpacked}
 use Rattle.om3.proofs.{RecordsTaken.unpacking-parted}
 use Rattle.packing.specs.Packing.{coefficientFrom, unpacked}
 use Rattle.examining_bytes.specs.Packed.{PackedTable}
@@ -76,14 +76,9 @@ module _ (r : List ℕ) where
         length-take-le (length r - after) (drop after r) (omega (arith, length-drop after r))
         ∙ omega (arith, record-length)
 
-    pub packed-table : PackedTable n packed codes
+    pub packed-table : PackedTable n p packed codes
     packed-table =
-        let same : p ≡ P n = o .places ∙ sym (ap P (o .hours)) in
-        record {
-          most = rw (o .hours) (good-some _ (opens-formed r (o .opens) .timed) .1);
-          coefficients = packed-length ∙ ap (λ (k : ℕ). 3 * k) same;
-          codes = codes-length ∙ ap (λ (k : ℕ). k / 2) same;
-        }
+        record { places = o .places ∙ sym (ap P (o .hours)); coefficients = packed-length; codes = codes-length }
 
     -- What the parts hold is the table that the bytes state.
     coefficient-same : (i : ℕ) → i < p → coefficientFrom packed i ≡ coefficientIn r i

@@ -7,23 +7,24 @@ use words::Unpacking;
 ghost use Rattle.examining_bytes.specs.Packed.{PackedTable};
 ghost use Rattle.reading.specs.Reading.{PartsRead, RecordRead};
 
-// Reads an opened record of n hours, its packed coefficients and its codes, into the first places of the buffers.
+// Reads an opened record of n hours and P places, its packed coefficients and its codes, into the first places of the
+// buffers.
 fn read_parts(
     n: usize,
+    places: usize,
     packed: &[u8],
     codes_in: &[u8],
     coefficients: &mut [i32],
     codes: &mut [u8],
 ) -> Unpacking
-    requires { ⌜ PackedTable n (now packed) (now codes_in) ⌝ }
+    requires { ⌜ PackedTable n places (now packed) (now codes_in) ⌝ }
     ensures { λ r. ⌜ PartsRead n (now (packed .entry)) (now (codes_in .entry))
         (now (coefficients .entry)) (now (codes .entry)) (now (coefficients .exit)) (now (codes .exit)) r ⌝ }
 {
-    let places = packed.len() / words::COEFFICIENT_SIZE;
     if sizes::table_short(places, coefficients.len(), codes.len()) {
         return Unpacking::Refused(Refusal::ShortBuffer);
     }
-    if let Verdict::Unsound(i) = examining_bytes::examine(n, packed, codes_in) {
+    if let Verdict::Unsound(i) = examining_bytes::examine(n, places, packed, codes_in) {
         return Unpacking::Refused(Refusal::Unsound(i));
     }
     packing::unpack(packed, &mut coefficients[..places]);
@@ -42,6 +43,7 @@ pub fn read_record(bytes: &[u8], coefficients: &mut [i32], codes: &mut [u8]) -> 
             let at = words::HEADER_SIZE + words::COEFFICIENT_SIZE * places;
             read_parts(
                 hours,
+                places,
                 &bytes[words::HEADER_SIZE..at],
                 &bytes[at..],
                 coefficients,

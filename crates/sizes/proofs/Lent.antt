@@ -1,10 +1,12 @@
--- A table is lent whole exactly if checks 1 and 3 pass for it; what these two checks say. Assumes nothing.
-use Rattle.kit.proofs.{_≡_, true, false, List, ℕ, ℤ}
-use Rattle.words.specs.declared.{Refusal.the-variants.BadHours, Refusal.the-variants.ShortBuffer, Taking.Taking}
-use Rattle.om3.specs.Document.{badHours, Table, lent, passes, inOrder, answerBy, tableShort}
-use Rattle.om3.proofs.{Examined.first-absent, Taken.taken-passes}
+-- A table is lent whole exactly if checks 1 and 3 pass for it; what these two checks say, and of a call that begins
+-- with them. Assumes nothing.
+use Rattle.kit.proofs.{_≡_, _∙_, true, false, List, [], _∷_, ℕ, ℤ}
+use Rattle.words.specs.declared.{Refusal.Refusal, Refusal.the-variants.BadHours, Refusal.the-variants.ShortBuffer}
+use Rattle.om3.specs.Document.{badHours, P, Table, lent, Check, passes, refuses, andThen, inOrder, checkHours}
+use Rattle.om3.specs.Document.{checkRoom, tableShort}
+use Rattle.om3.proofs.{Examined.in-order-append}
 use Rattle.om3.proofs.Lent.{not-short, coefficients-there, codes-there}
-use Rattle.sizes.specs.Lent.{lentCheck, TableLent}
+use Rattle.sizes.specs.Lent.{lentCheck, TableLent, Passed}
 
 module _ (n : ℕ) (cs : List ℤ) (ks : List ℕ) where
   pub table-lent : badHours n ≡ false → tableShort n (lent cs ks) ≡ false → TableLent n cs ks
@@ -18,30 +20,37 @@ module _ (n : ℕ) (cs : List ℤ) (ks : List ℕ) where
   pub table-room : TableLent n cs ks → tableShort n (lent cs ks) ≡ false
   table-room t = not-short n (lent cs ks) (t .coefficients) (t .codes)
 
--- Checks 1 and 3.
+-- Checks 1 and 3, in their order.
 module _ (n : ℕ) (cs : List ℤ) (ks : List ℕ) where
   abbrev T : Table
   T = lent cs ks
 
-  pub bad-hours : badHours n ≡ true → Taking.Refused BadHours ≡ answerBy Taking.Refused (lentCheck n T) Taking.Taken
+  pub bad-hours : badHours n ≡ true → lentCheck n T ≡ refuses BadHours
   unfolding inOrder
   bad-hours b = rw b
 
   module _ (good : badHours n ≡ false) where
-    pub short-table : tableShort n T ≡ true
-        → Taking.Refused ShortBuffer ≡ answerBy Taking.Refused (lentCheck n T) Taking.Taken
+    pub short-table : tableShort n T ≡ true → lentCheck n T ≡ refuses ShortBuffer
     unfolding inOrder
     short-table h = rw (good, h)
 
-    pub enough : tableShort n T ≡ false → Taking.Taken ≡ answerBy Taking.Refused (lentCheck n T) Taking.Taken
+    pub enough : tableShort n T ≡ false → lentCheck n T ≡ passes
     unfolding inOrder
     enough h = rw (good, h)
 
-  pub lent-passes : Taking.Taken ≡ answerBy Taking.Refused (lentCheck n T) Taking.Taken → lentCheck n T ≡ passes
-  lent-passes taken = taken-passes (lentCheck n T) taken
+    pub lent-passed : tableShort n T ≡ false → (p : ℕ) → p ≡ P n → Passed n cs ks p
+    lent-passed h p e = record { checks = enough h; table = table-lent n cs ks good h; places = e }
 
-  -- They have passed: the table is lent.
-  pub checked-lent : lentCheck n T ≡ passes → TableLent n cs ks
-  checked-lent lends =
-      let one = first-absent (badHours n) BadHours _ lends in
-      table-lent n cs ks (one .0) (first-absent (tableShort n T) ShortBuffer _ (one .1) .0)
+-- The checks of a call that begin with these two: where they refuse, that decides; where they pass, the rest does.
+module _ (n : ℕ) (t : Table) (rest : List Check) where
+  abbrev whole : Check
+  whole = inOrder (checkHours n ∷ checkRoom (tableShort n t) ∷ rest)
+
+  parted : whole ≡ andThen (lentCheck n t) (inOrder rest)
+  parted = in-order-append (checkHours n ∷ checkRoom (tableShort n t) ∷ []) rest
+
+  pub lent-refuses : (why : Refusal) → lentCheck n t ≡ refuses why → whole ≡ refuses why
+  lent-refuses why e = parted ∙ rw e
+
+  pub lent-passes : lentCheck n t ≡ passes → whole ≡ inOrder rest
+  lent-passes e = parted ∙ rw e

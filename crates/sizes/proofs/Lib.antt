@@ -1,4 +1,5 @@
--- What the proof of `places` rests on; then what it means that checks 1 and 3, and 4 after them, pass for a table.
+-- What the proofs of `places` and `power` rest on; then what it means that checks 1 and 3, and 4 after them, pass for a
+-- table.
 pub mod Powers
 pub mod Lent
 pub mod TableChecks

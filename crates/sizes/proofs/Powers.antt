@@ -1,48 +1,43 @@
--- Doubling from 2 on reaches P before it passes it; doubling counted times reaches the power. Assumes nothing.
-use Rattle.kit.proofs.{_≡_, refl, ap, _∙_, ⊎-elim, ℕ, suc, _+_, _*_, _^_, _≤_, _<_, two-pow-succ, eq-or-lt-of-le}
-use Rattle.kit.proofs.{le-antisymm, add-one, arith, pow-mono}
+-- Powers of two found without counting up: n − 1 has l bits, and 1 shifted left by j is 2^j. Assumes nothing.
+use Rattle.kit.proofs.{_≡_, ap, ⊎-elim, ℕ, _+_, _-_, _*_, _%_, _^_, _≤_, _<_, two-pow-succ, le-antisymm, arith}
+use Rattle.kit.proofs.{pow-mono}
+use native.Mathlib.Nat.{one-mul}
+use lib.Count.{leadingZeros, leading-length}
+use lib.Pow.{shl-exact}
 use Rattle.words.specs.{largestLevel, largestHours}
 use Rattle.om3.specs.Document.{levels, P}
+use Rattle.om3.proofs.{Tests.below-or-not}
 use Rattle.om3.proofs.Levels.{levels-some, levels-least, n≤P}
 
--- p is a power of two from 2 up to P.
-pub record Power (n p : ℕ) : Type 0 where
-  pub exponent : ℕ
-  pub is : p ≡ 2 ^ exponent
-  pub some : 1 ≤ exponent
-  pub within : exponent ≤ levels n
-  pub two : 2 ≤ p
+-- P of two hours or fewer is 2.
+pub two-places : (n : ℕ) → n ≤ 2 → 2 ≡ P n
+two-places n few =
+    let least = levels-least n 1 (omega arith) few in
+    ap (λ (j : ℕ). 2 ^ j) (le-antisymm (levels-some n) least)
 
-pub power-two : (n : ℕ) → Power n 2
-power-two n = record { exponent = 1; is = refl; some = omega arith; within = levels-some n; two = omega arith }
+-- Of more hours, l is the exponent whose power is at least n and less than 2·n.
+module _ (n : ℕ) (more : 2 < n) (most : n ≤ largestHours) where
+  module _ (m : ℕ) (enough : n ≤ 2 ^ m) (less : 2 ^ m < 2 * n) where
+    exponent-some : 1 ≤ m
+    exponent-some =
+        ⊎-elim (λ h. absurd (omega (arith, pow-mono h, two-pow-succ m))) (λ h. h) (below-or-not m 1)
 
--- A power that is less than n can be doubled; one that is not is P.
-module _ (n p : ℕ) (w : Power n p) where
-  pub power-double : n ≤ largestHours → p < n → Power n (p * 2)
-  power-double most less =
-      record {
-        exponent = suc (w .exponent);
-        is = omega (arith, w .is, two-pow-succ (w .exponent));
-        some = omega arith;
-        within =
-            ⊎-elim
-            (λ e. absurd (omega (arith, n≤P n most, w .is, ap (λ (j : ℕ). 2 ^ j) e)))
-            (λ h. h)
-            (eq-or-lt-of-le (w .within));
-        two = omega (arith, w .two);
-      }
+    exponent-upto : m ≤ levels n
+    exponent-upto =
+        ⊎-elim (λ h. absurd (omega (arith, pow-mono h, two-pow-succ (levels n), n≤P n most)))
+        (λ h. h)
+        (below-or-not (levels n) m)
 
-  pub power-done : n ≤ p → p ≡ P n
-  power-done enough =
-      let least = levels-least n (w .exponent) (w .some) (omega (arith, w .is)) in
-      w .is ∙ ap (λ (j : ℕ). 2 ^ j) (le-antisymm (w .within) least)
+    exponent-is : m ≡ levels n
+    exponent-is = le-antisymm exponent-upto (levels-least n m exponent-some enough)
 
--- The same of doubling a counted number of times.
-pub double-again : (p k : ℕ) → p ≡ 2 ^ k → p * 2 ≡ 2 ^ (k + 1)
-double-again p k e = rw (add-one k) (omega (arith, two-pow-succ k))
+  -- Where 64 bits hold n − 1, all but its leading zeros are l.
+  pub bits-levels : n - 1 < 2 ^ 64 → 64 - leadingZeros 64 (n - 1) ≡ levels n
+  bits-levels fits =
+      let bits = leading-length 64 (n - 1) fits in
+      let is = exponent-is (bits .0) (omega (arith, bits .2)) (omega (arith, bits .3)) in
+      omega (arith, bits .1)
 
-pub double-fits : (p k : ℕ) → p ≡ 2 ^ k → k ≤ largestLevel → p ≤ largestHours
-double-fits p k e h = omega (arith, pow-mono h)
-
-pub doubled : (p k j : ℕ) → p ≡ 2 ^ k → k ≤ j → j ≤ k → p ≡ 2 ^ j
-doubled p k j e a b = e ∙ ap (λ (i : ℕ). 2 ^ i) (le-antisymm a b)
+-- 1 shifted left by a level j is no number that 64 bits would cut.
+pub shifted : (j : ℕ) → j ≤ largestLevel → (1 * 2 ^ j) % 2 ^ 64 ≡ 2 ^ j
+shifted j h = rw (shl-exact {a = 1} 1 j 64 (omega arith) (omega arith)) (one-mul (2 ^ j))

@@ -1,16 +1,19 @@
 // How large a table and its record are, and whether a table is lent whole: checks 1 and 3.
 use words::Refusal;
-use words::Taking;
 ghost use mathlib.Core.Path.{_≡_};
 ghost use mathlib.Core.Bool.{_||_};
 ghost use Prim.Native.Nat.{_+_, _/_, _^_, _≤_};
 ghost use Rattle.words.specs.Constants.{largestLevel, largestHours};
 ghost use Rattle.om3.specs.Series.{badHours, P};
-ghost use Rattle.om3.specs.Table.{lent};
-ghost use Rattle.om3.specs.Checks.{answerBy};
 ghost use Rattle.om3.specs.Refusals.{short};
 ghost use Rattle.om3.specs.Record.{lengthFor};
-ghost use Rattle.sizes.specs.Lent.{lentCheck};
+ghost use Rattle.sizes.specs.Lent.{LentAs};
+
+// What checks 1 and 3 of a table answer: its refusal, or P, for which both buffers are long enough.
+pub enum Lending {
+    Refused(Refusal),
+    Places(usize),
+}
 
 // Check 1: whether n is 0 or over 16,384.
 pub fn bad_hours(n: usize) -> bool
@@ -24,11 +27,12 @@ pub fn places(n: usize) -> usize
     requires { ⌜ n ≤ largestHours ⌝ }
     ensures { λ r. ⌜ r ≡ P n ⌝ }
 {
-    let mut p = 2;
-    while p < n {
-        p = p * 2;
+    if n <= 2 {
+        return 2;
     }
-    p
+    // n - 1 has l bits: 2^l is the least power of two above it.
+    let l = 64 - usize::leading_zeros(n - 1);
+    1 << l
 }
 
 // Check 3 of a table of p places: whether fewer coefficients or fewer codes are lent than it needs.
@@ -38,19 +42,18 @@ pub fn table_short(p: usize, coefficients: usize, codes: usize) -> bool
     coefficients < p || codes < p / 2
 }
 
-// Checks 1 and 3 of a table.
-pub fn check_lent(n: usize, coefficients: &[i32], codes: &[u8]) -> Taking
-    ensures { λ r. ⌜ r ≡ answerBy Taking.Refused
-        (lentCheck n (lent (now (coefficients .entry)) (now (codes .entry)))) Taking.Taken ⌝ }
+// Checks 1 and 3 of a table: why it is refused, or how many places it has.
+pub fn check_lent(n: usize, coefficients: &[i32], codes: &[u8]) -> Lending
+    ensures { λ r. ⌜ LentAs n (now (coefficients .entry)) (now (codes .entry)) r ⌝ }
 {
     if bad_hours(n) {
-        return Taking::Refused(Refusal::BadHours);
+        return Lending::Refused(Refusal::BadHours);
     }
     let p = places(n);
     if table_short(p, coefficients.len(), codes.len()) {
-        return Taking::Refused(Refusal::ShortBuffer);
+        return Lending::Refused(Refusal::ShortBuffer);
     }
-    Taking::Taken
+    Lending::Places(p)
 }
 
 // 2^j, for a level j.
@@ -58,13 +61,7 @@ pub fn power(j: usize) -> usize
     requires { ⌜ j ≤ largestLevel ⌝ }
     ensures { λ r. ⌜ r ≡ 2 ^ j ⌝ }
 {
-    let mut p = 1;
-    let mut k = 0;
-    while k < j {
-        p = p * 2;
-        k += 1;
-    }
-    p
+    1 << j
 }
 
 // How many bytes the record of a table of p places has.

@@ -4,15 +4,14 @@ use Rattle.kit.proofs.{_≡_, refl, _∙_, List, ℕ, _-_, arith, ℤ, pos, get
 use Rattle.words.specs.declared.{Column.Column, Range.Range}
 use Rattle.om3.specs.Document.{levels, P, root, Table, lent, rootRange, inOrder, soundRootValues, examine, outer}
 use Rattle.om3.specs.Document.{innerNodes}
-use Rattle.sizes.specs.Lent.{TableLent}
-use Rattle.om3.proofs.{Levels.2≤P, Levels.P-even, BelowOpened.visited-root}
+use Rattle.om3.proofs.{Levels.levels-most, BelowOpened.visited-root}
 use Rattle.node.proofs.Located.{root-located}
 use Rattle.node.specs.declared.Root.{Root}
 use Rattle.node.specs.Steps.{rootOf}
 use Rattle.examining.proofs.Answers.{Rooted, rooted, not-rooted}
 use Rattle.examining.proofs.AtRoot.{root-readings, root-reached}
-use Rattle.walking.specs.{Nodes.At, Nodes.Below, Seen.seenOf, Seen.tableSeen, Visiting.VisitedFrom}
-use Rattle.walking.specs.{Visiting.TableVisited}
+use Rattle.walking.specs.{Seen.seenOf, Seen.tableSeen, Visiting.VisitedFrom, Visiting.TableVisited}
+use Rattle.walking.specs.Nodes.{LentTo, At, Below}
 use Rattle.walking.specs.declared.{Reached.Reached, Visited.Visited}
 use Rattle.walking.proofs.{SeenTogether.seen-same, Visiting.not-through}
 
@@ -47,13 +46,15 @@ module _ (n : ℕ) (cs : List ℤ) (ks : List ℕ) (x : Column) (stop : ℕ) whe
     top-at : At l T root top
     top-at = record { located = root-located l; range = root-reached n cs ks range h }
 
-    pub top-below : TableLent n cs ks → Below cs ks top
-    top-below room =
+    pub top-below : LentTo stop l cs ks → Below stop cs ks top
+    top-below lends =
         record {
-          some = omega (arith, 2≤P n);
+          levels = l;
+          node = root;
+          most = levels-most n;
+          table = lends;
+          located = root-located l;
           readings = root-readings cs h;
-          details = omega (arith, room .coefficients, P-even n);
-          codes = omega (arith, room .codes, P-even n);
         }
 
     abbrev H : Rooted (soundRootValues a b) (rootRange a b) range

@@ -1,57 +1,115 @@
--- What is lent for a node is lent for a step down and for its halves, and for the inner nodes of two visits together.
--- Assumes nothing.
-use Rattle.kit.proofs.{Bool, true, false, cond, List, ℕ, _+_, _/_, _≤_, mul-le-mul-left, arith, ℤ, length, ltb-false}
+-- What is lent of a table is enough for a step down from each node that is opened, and for its halves; how large the
+-- numbers of its nodes are; and the inner nodes of two visits together. Assumes nothing.
+use Rattle.kit.proofs.{_≡_, sym, ap, _∙_, Bool, true, false, cond, List, ℕ, suc, _+_, _-_, _*_, _^_, _≤_, _<_}
+use Rattle.kit.proofs.{two-pow-succ, mul-le-mul-right, suc-mul, arith, ℤ, length, pow-pos, pow-mono, pow-add, ltb-true}
+use Rattle.kit.proofs.{ltb-false}
+use Rattle.words.specs.{largestHours, Readings}
 use Rattle.words.specs.declared.Range.{Range}
-use Rattle.words.specs.{Readings}
-use Rattle.node.proofs.Rooms.{left-room, right-room, places-room}
-use Rattle.walking.specs.Nodes.{Below, isPairOf, leftReached, rightReached}
+use Rattle.om3.specs.Document.{levels, Node, InTree, left, right, start, width}
+use Rattle.om3.proofs.Levels.{2≤P, P-even}
+use Rattle.node.proofs.Located.{above-pairs, pair-width, left-located, right-located}
+use Rattle.sizes.specs.Lent.{TableLent}
+use Rattle.walking.specs.Nodes.{LentTo, Below, isPairOf, leftReached, rightReached}
 use Rattle.walking.specs.{Seen.bothInner, Visiting.Steps, Visiting.InnerBelow}
 use Rattle.walking.specs.declared.{Reached.Reached, Inner.Inner}
 
--- What is lent for a node of two hours or more is lent for a step down from it and for its halves.
-module _ (cs : List ℤ) (ks : List ℕ) (at : Reached) (below : Below cs ks at) (two : 2 ≤ at .hours) where
-  pub steps : Steps cs ks (at .id) (at .from) (isPairOf (at .hours)) (at .range)
-  steps =
-      record {
-        readings = below .readings;
-        code = λ pair. omega (arith, below .codes);
-        details = λ wide.
-            let w : 2 ≤ at .hours / 2 = omega (arith, ltb-false (at .hours) 4 wide) in
-            places-room _ _ _ w (below .details);
-      }
+-- A table that is lent whole is lent as far as any stop.
+pub whole-lent : (n : ℕ) (cs : List ℤ) (ks : List ℕ) → TableLent n cs ks → (stop : ℕ) → LentTo stop (levels n) cs ks
+whole-lent n cs ks t stop =
+    record {
+      root = omega (arith, t .coefficients, 2≤P n);
+      details = λ j above wide.
+          omega (arith, t .coefficients, pow-mono above, two-pow-succ j, two-pow-succ (suc j));
+      codes = λ pairs. omega (arith, t .codes, P-even n);
+    }
 
-  pub left-below : (r : Range) → Readings r → Below cs ks (leftReached at r)
-  left-below r p =
-      record {
-        some = omega arith;
-        readings = p;
-        details = left-room (at .id .0) (at .hours / 2) (length cs) (below .details);
-        codes = omega (arith, below .codes);
-      }
+-- A node of a tree ends no later than the tree does.
+node-ends : (l : ℕ) (v : Node) → InTree l v → start l v + width l v ≤ 2 ^ l
+unfolding start width
+node-ends l v i =
+    let w = 2 ^ (l - v .level) in
+    let all : v .level + (l - v .level) ≡ l = let d = i .deep in omega arith in
+    let e : 2 ^ v .level * w ≡ 2 ^ l = sym (pow-add 2 (v .level) (l - v .level)) ∙ ap (λ (j : ℕ). 2 ^ j) all in
+    omega (arith, suc-mul (v .index) w, mul-le-mul-right w (i .among))
 
-  pub right-below : (r : Range) → Readings r → Below cs ks (rightReached at r)
-  right-below r p =
-      record {
-        some = omega arith;
-        readings = p;
-        details = right-room (at .id .0) (at .hours / 2) (length cs) (below .details);
-        codes = omega (arith, below .codes);
-      }
+-- A node of a table that is lent so far.
+module _ {stop : ℕ} {cs : List ℤ} {ks : List ℕ} {at : Reached} (below : Below stop cs ks at) where
+  abbrev v : Node
+  v = below .node
+
+  pub some-hours : 1 ≤ at .hours
+  unfolding width
+  some-hours = omega (arith, below .located .covers, pow-pos (below .levels - v .level))
+
+  pub ends-within : at .from .0 + at .hours ≤ largestHours
+  ends-within =
+      let here = below .located in
+      omega (arith, node-ends (below .levels) v (here .inTree), here .begins, here .covers, pow-mono (below .most))
 
   -- Its number is not too large to be doubled.
-  pub small-number : at .id .0 + 1 ≤ length cs
+  pub small-number : at .id .0 + 1 ≤ 2 * largestHours
   small-number =
-      let one : 1 ≤ at .hours / 2 = omega arith in
-      omega (arith, mul-le-mul-left (at .id .0 + 1) one, below .details)
+      let here = below .located in
+      let tree = here .inTree in
+      omega (arith, here .numbered, tree .among, pow-mono (tree .deep), pow-mono (below .most))
+
+  -- It is opened: its details are there, or its code if it is a pair.
+  module _ (wide : stop < at .hours) (two : 2 ≤ at .hours) where
+    pair-code : at .hours < 4 → at .from .0 + 2 ≤ 2 * length ks
+    pair-code four =
+        let here = below .located in
+        let pair : at .hours ≡ 2 = pair-width here two four in
+        let lent = below .table .codes (omega arith) in
+        omega (arith, node-ends (below .levels) v (here .inTree), here .begins, here .covers)
+
+    own-details : 4 ≤ at .hours → 2 * at .id .0 + 2 ≤ length cs
+    unfolding width
+    own-details four =
+        let here = below .located in
+        let lent = below .table .details (v .level) (above-pairs here four) (omega (arith, here .covers)) in
+        omega (arith, here .numbered, here .inTree .among)
+
+    pub steps : Steps cs ks (at .id) (at .from) (isPairOf (at .hours)) (at .range)
+    steps =
+        record {
+          readings = below .readings;
+          code = λ pair. pair-code (ltb-true (at .hours) 4 pair);
+          details = λ apart. own-details (ltb-false (at .hours) 4 apart);
+        }
+
+  -- Its halves are nodes of the same table.
+  module _ (two : 2 ≤ at .hours) (r : Range) (p : Readings r) where
+    pub left-below : Below stop cs ks (leftReached at r)
+    left-below =
+        record {
+          levels = below .levels;
+          node = left v;
+          most = below .most;
+          table = below .table;
+          located = left-located (below .located) two;
+          readings = p;
+        }
+
+    pub right-below : Below stop cs ks (rightReached at r)
+    right-below =
+        record {
+          levels = below .levels;
+          node = right v;
+          most = below .most;
+          table = below .table;
+          located = right-located (below .located) two;
+          readings = p;
+        }
 
 -- The inner nodes of two visits.
-module _ (cs : List ℤ) (ks : List ℕ) where
-  pub alone-below : (b : Bool) (range : Range) (at : Reached) → Below cs ks at
-      → InnerBelow cs ks (cond b (Inner.Nodes range at at) Inner.Nothing)
+module _ (stop : ℕ) (cs : List ℤ) (ks : List ℕ) where
+  pub alone-below : (b : Bool) (range : Range) (at : Reached) → Below stop cs ks at
+      → InnerBelow stop cs ks (cond b (Inner.Nodes range at at) Inner.Nothing)
   alone-below true range at p = (p, p)
   alone-below false range at p = tt
 
-  pub both-below : (i j : Inner) → InnerBelow cs ks i → InnerBelow cs ks j → InnerBelow cs ks (bothInner i j)
+  pub both-below : (i j : Inner) → InnerBelow stop cs ks i → InnerBelow stop cs ks j
+      → InnerBelow stop cs ks (bothInner i j)
   both-below Inner.Nothing j p q = q
   both-below (Inner.Nodes r first last) Inner.Nothing p q = p
   both-below (Inner.Nodes r first last) (Inner.Nodes u first′ last′) p q = (p .0, q .1)

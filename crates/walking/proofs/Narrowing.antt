@@ -1,8 +1,8 @@
 -- The narrowing of a visit: a record of what holds wherever it has come to, and how it goes on from there. A visit from
 -- where it has come to is a visit from its start. Assumes nothing.
-use Rattle.kit.proofs.{_≡_, refl, true, false, not, List, ℕ, _+_, _*_, _≤_, arith, ℤ, length, ltb-true}
+use Rattle.kit.proofs.{_≡_, refl, true, false, not, List, ℕ, _+_, _≤_, _<_, arith, ℤ, ltb-true}
+use Rattle.words.specs.{largestHours, Readings}
 use Rattle.words.specs.declared.{Column.Column, Range.Range}
-use Rattle.words.specs.{Readings}
 use Rattle.om3.proofs.Tests.{and-right}
 use Rattle.node.specs.declared.Halves.{Halves}
 use Rattle.walking.specs.Nodes.{Below, leftReached, rightReached, touchesOf, insideOf, openedOf}
@@ -12,20 +12,19 @@ use Rattle.walking.proofs.Lending.{left-below, right-below}
 use Rattle.walking.proofs.Visiting as visiting
 
 -- A node that is opened covers more hours than those where the visit stops.
-pub opened-hours : (x : Column) (stop : ℕ) (at : Reached) → 1 ≤ stop → openedOf x stop at ≡ true → 2 ≤ at .hours
-opened-hours x stop at one o =
-    let wide = ltb-true stop (at .hours) (and-right (not (insideOf x at)) _ (and-right (touchesOf x at) _ o)) in
-    omega arith
+pub opened-wide : (x : Column) (stop : ℕ) (at : Reached) → openedOf x stop at ≡ true → stop < at .hours
+opened-wide x stop at o =
+    ltb-true stop (at .hours) (and-right (not (insideOf x at)) _ (and-right (touchesOf x at) _ o))
 
 module _ (n : ℕ) (cs : List ℤ) (ks : List ℕ) (x : Column) (stop c : ℕ) (start : Reached) where
   -- Where the visit has come to: a node that is lent, with room to count, from which a visit is one from the start.
   pub record CameTo (at : Reached) (opened : ℕ) : Type 0 where
-    pub below : Below cs ks at
-    pub room : opened + at .hours ≤ 2 * length ks
+    pub below : Below stop cs ks at
+    pub room : opened + at .hours ≤ largestHours
     pub within : at .hours ≤ start .hours
     pub rest : (r : Visited) → VisitedFrom n cs ks x stop opened at r → VisitedFrom n cs ks x stop c start r
 
-  pub at-start : Below cs ks start → c + start .hours ≤ 2 * length ks → CameTo start c
+  pub at-start : Below stop cs ks start → c + start .hours ≤ largestHours → CameTo start c
   at-start b m = record { below = b; room = m; within = omega arith; rest = λ r w. w }
 
   pub ends : (at : Reached) (opened : ℕ) → CameTo at opened → openedOf x stop at ≡ false
@@ -34,7 +33,7 @@ module _ (n : ℕ) (cs : List ℤ) (ks : List ℕ) (x : Column) (stop c : ℕ) (
 
   module _ (at : Reached) (opened : ℕ) (came : CameTo at opened) (o : openedOf x stop at ≡ true)
       (two : 2 ≤ at .hours) where
-    abbrev lent : Below cs ks at
+    abbrev lent : Below stop cs ks at
     lent = came .below
 
     pub unsound : SteppedDown n cs ks at Halves.Unsound → VisitedFrom n cs ks x stop c start (Visited.Unsound (at .id))
@@ -47,7 +46,7 @@ module _ (n : ℕ) (cs : List ℤ) (ks : List ℕ) (x : Column) (stop c : ℕ) (
       pub goes-left : touchesOf x (rightReached at q) ≡ false → CameTo (leftReached at r) (opened + 1)
       goes-left apart =
           record {
-            below = left-below cs ks at lent two r (p .0);
+            below = left-below lent two r (p .0);
             room = omega (arith, came .room);
             within = omega (arith, came .within);
             rest = λ z w. came .rest z (visiting.only-first n cs ks x stop opened at o two lent r q step apart z w);
@@ -56,7 +55,7 @@ module _ (n : ℕ) (cs : List ℤ) (ks : List ℕ) (x : Column) (stop c : ℕ) (
       pub goes-right : touchesOf x (leftReached at r) ≡ false → CameTo (rightReached at q) (opened + 1)
       goes-right apart =
           record {
-            below = right-below cs ks at lent two q (p .1);
+            below = right-below lent two q (p .1);
             room = omega (arith, came .room);
             within = omega (arith, came .within);
             rest = λ z w. came .rest z (visiting.only-second n cs ks x stop opened at o two lent r q step apart z w);
@@ -65,8 +64,8 @@ module _ (n : ℕ) (cs : List ℤ) (ks : List ℕ) (x : Column) (stop c : ℕ) (
       pub splits : SplitsAt n cs ks x stop c start (leftReached at r) (rightReached at q) (opened + 1)
       splits =
           record {
-            before = left-below cs ks at lent two r (p .0);
-            after = right-below cs ks at lent two q (p .1);
+            before = left-below lent two r (p .0);
+            after = right-below lent two q (p .1);
             room = omega (arith, came .room);
             less-first = omega (arith, came .within);
             less-second = omega (arith, came .within);

@@ -1,8 +1,7 @@
 -- One step down, at a pair and at a node of two halves: its answer is the node's halves if it is sound, and these are
 -- ranges of readings. Assumes nothing.
 use Rattle.kit.proofs.{_≡_, sym, _∙_, Bool, _&&_, List, ℕ, _+_, _*_, _/_, _≤_, _<_, ℤ, pos, getD}
-use Rattle.words.specs.declared.{NodeId.NodeId, Timestamp.Timestamp, Range.Range}
-use Rattle.words.specs.{Readings}
+use Rattle.words.specs.{declared.NodeId.NodeId, declared.Timestamp.Timestamp, declared.Range.Range, Readings}
 use Rattle.om3.specs.Document.{hour, Node, Table, lent, firstOfPair, secondOfPair, soundCode, gapFrom}
 use Rattle.om3.proofs.{Tests.and-left, Nodes.pair-yes, Nodes.pair-no, Reached.reached-left, Reached.reached-right}
 use Rattle.om3.proofs.{SoundCodes.coded}

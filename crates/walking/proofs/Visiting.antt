@@ -16,7 +16,7 @@ use Rattle.walking.specs.Nodes.{At, Below, leftReached, rightReached, to
 use Rattle.walking.specs.Seen.{unopenedOf, bothSeen, seenOf}
 use Rattle.walking.specs.Visiting.{SteppedDown, StopsAt, Visits, VisitedFrom}
 use Rattle.walking.specs.declared.{Reached.Reached, Seen.Seen, Visited.Visited}
-use Rattle.walking.proofs.Lending.{left-below, right-below, alone-below, both-below}
+use Rattle.walking.proofs.Lending.{some-hours, left-below, right-below, alone-below, both-below}
 use Rattle.walking.proofs.Touching.{touches-is, inside-is, opened-is, left-at, right-at}
 use Rattle.walking.proofs.SeenTogether.{seen-same, inner-append, inner-alone, outer-alone, nothing-before}
 use Rattle.walking.proofs.SeenTogether.{nothing-after}
@@ -66,20 +66,21 @@ module _ (n : ℕ) (cs : List ℤ) (ks : List ℕ) (x : Column) (stop : ℕ) whe
             saw = λ s e. sym (through-same e) ∙ unopened-seen;
           }
 
-    pub unopened-visited : Below cs ks at → From c at (Visited.Through (unopenedOf x c at))
+    pub unopened-visited : Below stop cs ks at → From c at (Visited.Through (unopenedOf x c at))
     unopened-visited lent =
         record {
           below = λ s e.
               rw (sym (through-same e))
-              (alone-below cs ks (touchesOf x at && insideOf x at) (at .range) at lent);
+              (alone-below stop cs ks (touchesOf x at && insideOf x at) (at .range) at lent);
           few = λ s e.
               let z : s .opened ≡ c = ap (λ (u : Seen). u .opened) (sym (through-same e)) in
-              omega (arith, lent .some);
+              omega (arith, some-hours lent);
           visits = unopened-visits;
         }
 
   -- A node that is opened.
-  module _ (c : ℕ) (at : Reached) (o : openedOf x stop at ≡ true) (two : 2 ≤ at .hours) (lent : Below cs ks at) where
+  module _ (c : ℕ) (at : Reached) (o : openedOf x stop at ≡ true) (two : 2 ≤ at .hours)
+      (lent : Below stop cs ks at) where
     module _ (l d : ℕ) (v : Node) (asked : StopsAt l d x stop) (here : At l T v at) where
       is-opened : opened l T x d v ≡ true
       is-opened = sym (opened-is here asked) ∙ o
@@ -152,11 +153,11 @@ module _ (n : ℕ) (cs : List ℤ) (ks : List ℕ) (x : Column) (stop : ℕ) whe
       abbrev second : Reached
       second = rightReached at q
 
-      first-lent : Below cs ks first
-      first-lent = left-below cs ks at lent two r (step .readings r q refl .0)
+      first-lent : Below stop cs ks first
+      first-lent = left-below lent two r (step .readings r q refl .0)
 
-      second-lent : Below cs ks second
-      second-lent = right-below cs ks at lent two q (step .readings r q refl .1)
+      second-lent : Below stop cs ks second
+      second-lent = right-below lent two q (step .readings r q refl .1)
 
       module _ (l d : ℕ) (v : Node) (asked : StopsAt l d x stop) (here : At l T v at) where
         abbrev S : Stepped (soundNode l n T v) (reached l T (left v)) (reached l T (right v)) r q
@@ -227,7 +228,7 @@ module _ (n : ℕ) (cs : List ℤ) (ks : List ℕ) (x : Column) (stop : ℕ) whe
                   omega (arith, F .few a refl, G .few b refl);
               below = λ s e.
                   rw (sym (through-same e))
-                  (both-below cs ks (a .inner) (b .inner) (F .below a refl) (G .below b refl));
+                  (both-below stop cs ks (a .inner) (b .inner) (F .below a refl) (G .below b refl));
               visits = λ l d v asked here seen.
                   let L = left-visits l d v asked here (Visited.Through a) F in
                   let R = right-visits l d v asked here (a .opened) (Visited.Through b) G in

@@ -15,7 +15,8 @@ use Rattle.walking.specs.Nodes.{At, Below, leftReached, rightReached}
 use Rattle.walking.specs.Visiting.{SteppedDown}
 use Rattle.walking.specs.Walking.{takesLeft, towards, Walks, Small, WalkedFrom}
 use Rattle.walking.specs.declared.{Reached.Reached, Towards.Towards, Walked.Walked}
-use Rattle.walking.proofs.{Touching.left-at, Touching.right-at, Lending.left-below, Lending.right-below}
+use Rattle.walking.proofs.Touching.{left-at, right-at}
+use Rattle.walking.proofs.Lending.{some-hours, left-below, right-below}
 
 not-came : {i : NodeId} {r : Reading} {m : ℕ} → Walked.Unsound i ≡ Walked.Came r m → ⊥
 not-came e = let z : _≡_ {A = ℕ} 0 1 = cc in omega arith
@@ -57,7 +58,7 @@ module _ (n : ℕ) (cs : List ℤ) (ks : List ℕ) (w : Towards) where
   From c at r = WalkedFrom n cs ks w c at r
 
   -- A single hour is its own end.
-  module _ (c : ℕ) (at : Reached) (below : Below cs ks at) (one : at .hours ≤ 1) where
+  module _ (c : ℕ) (at : Reached) (below : Below 1 cs ks at) (one : at .hours ≤ 1) where
     single : (l : ℕ) (v : Node) → At l T v at → v .level ≡ l
     single l v here =
         let covers = here .located .covers in
@@ -80,7 +81,7 @@ module _ (n : ℕ) (cs : List ℤ) (ks : List ℕ) (w : Towards) where
     unfolding walkNodes walkEnd inOrder
     hour-came =
         record {
-          few = λ r m e. omega (arith, came-same e .1, below .some);
+          few = λ r m e. omega (arith, came-same e .1, some-hours below);
           small = λ r m e. rw (sym (came-same e .0)) (small-low (at .range) (below .readings));
           walks = λ l v here.
               let z = single l v here in
@@ -155,11 +156,11 @@ module _ (n : ℕ) (cs : List ℤ) (ks : List ℕ) (w : Towards) where
 
   -- Where a walk has come to: a node that is lent, from which a walk is one from the start.
   pub record CameTo (start at : Reached) (c : ℕ) : Type 0 where
-    pub below : Below cs ks at
+    pub below : Below 1 cs ks at
     pub room : c + at .hours ≤ start .hours
     pub rest : (r : Walked) → From c at r → From 0 start r
 
-  pub at-start : (start : Reached) → Below cs ks start → CameTo start start 0
+  pub at-start : (start : Reached) → Below 1 cs ks start → CameTo start start 0
   at-start start b = record { below = b; room = omega arith; rest = λ r d. d }
 
   module _ (start at : Reached) (c : ℕ) (came : CameTo start at c) (two : 2 ≤ at .hours) where
@@ -167,7 +168,7 @@ module _ (n : ℕ) (cs : List ℤ) (ks : List ℕ) (w : Towards) where
       pub came-left : takesLeft w a b ≡ true → CameTo start (leftReached at a) (c + 1)
       came-left takes =
           record {
-            below = left-below cs ks at (came .below) two a (step .readings a b refl .0);
+            below = left-below (came .below) two a (step .readings a b refl .0);
             room = omega (arith, came .room);
             rest = λ r d. came .rest r (goes-left c at two a b step takes r d);
           }
@@ -175,7 +176,7 @@ module _ (n : ℕ) (cs : List ℤ) (ks : List ℕ) (w : Towards) where
       pub came-right : takesLeft w a b ≡ false → CameTo start (rightReached at b) (c + 1)
       came-right takes =
           record {
-            below = right-below cs ks at (came .below) two b (step .readings a b refl .1);
+            below = right-below (came .below) two b (step .readings a b refl .1);
             room = omega (arith, came .room);
             rest = λ r d. came .rest r (goes-right c at two a b step takes r d);
           }

@@ -6,9 +6,9 @@
 use mathlib.Core.Path.{_≡_}
 use mathlib.Core.Bool.{false}
 use mathlib.Core.List.{List}
-use Prim.Native.Nat.{ℕ, _+_, _*_, _≤_, _<_}
+use Prim.Native.Nat.{ℕ, _+_, _≤_, _<_}
 use lib.IntN.{ℤ}
-use lib.ListN.{length}
+use Rattle.words.specs.Constants.{largestHours}
 use Rattle.words.specs.declared.Column.{Column}
 use Rattle.words.specs.declared.NodeId.{NodeId}
 use Rattle.walking.specs.Nodes.{Below, openedOf}
@@ -22,15 +22,15 @@ use Rattle.walking.specs.declared.Narrowed.{Narrowed}
 module _ (n : ℕ) (cs : List ℤ) (ks : List ℕ) (x : Column) (stop c : ℕ) (start : Reached) where
   -- At a node that is not opened: a visit from there is one from the start.
   pub record EndsAt (at : Reached) (opened : ℕ) : Type 0 where
-    pub lent : Below cs ks at
+    pub lent : Below stop cs ks at
     pub closed : openedOf x stop at ≡ false
     pub rest : (r : Visited) → VisitedFrom n cs ks x stop opened at r → VisitedFrom n cs ks x stop c start r
 
   -- At two halves: what is seen in one and then in the other is seen from the start.
   pub record SplitsAt (first second : Reached) (opened : ℕ) : Type 0 where
-    pub before : Below cs ks first
-    pub after : Below cs ks second
-    pub room : opened + first .hours + second .hours ≤ 2 * length ks + 1
+    pub before : Below stop cs ks first
+    pub after : Below stop cs ks second
+    pub room : opened + first .hours + second .hours ≤ largestHours + 1
     pub less-first : first .hours < start .hours
     pub less-second : second .hours < start .hours
     pub left-unsound : (i : NodeId) → VisitedFrom n cs ks x stop opened first (Visited.Unsound i)

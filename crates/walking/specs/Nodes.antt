@@ -2,7 +2,8 @@
 --
 --   reachedOf l t v          node v of a table t of l levels, as the code carries it
 --   At l t v at              `at` is that node
---   Below cs ks at           it covers an hour, its range is one of readings, and all below it is lent
+--   LentTo stop l cs ks      of a table of l levels is lent what nodes of more than `stop` hours need to be opened
+--   Below stop cs ks at      it is a node of such a table, and its range is one of readings
 --   isPairOf w               a node of w hours, two or more, is a pair
 --   leftReached at r         its left half, which has the range r; rightReached at r, its right half
 --   touchesOf x at           it has a reading and shares an hour with the column x
@@ -11,10 +12,11 @@
 use mathlib.Core.Path.{_≡_}
 use mathlib.Core.Bool.{Bool, not, _&&_}
 use mathlib.Core.List.{List}
-use Prim.Native.Nat.{ℕ, _+_, _*_, _/_, _≤_}
+use Prim.Native.Nat.{ℕ, suc, _+_, _-_, _*_, _/_, _^_, _≤_, _<_}
 use lib.Dec.{leb, ltb}
 use lib.IntN.{ℤ}
 use lib.ListN.{length}
+use Rattle.words.specs.Constants.{largestLevel}
 use Rattle.words.specs.declared.Column.{Column}
 use Rattle.words.specs.declared.Range.{Range}
 use Rattle.words.specs.Bounds.{Readings}
@@ -35,12 +37,21 @@ pub record At (l : ℕ) (t : Table) (v : Node) (at : Reached) : Type 0 where
   pub located : Located l v (at .id .0) (at .from .0) (at .hours)
   pub range : at .range ≡ reached l t v
 
--- The node covers an hour and its range is one of readings; its details and codes, and those below it, are lent.
-pub record Below (cs : List ℤ) (ks : List ℕ) (at : Reached) : Type 0 where
-  pub some : 1 ≤ at .hours
+-- The root values are there; the details of level j, up to place 4·2^j − 1, if it is above the pairs and its nodes
+-- cover more than `stop` hours; the codes, if pairs do. [level 1] [table 2, 3, 6]
+pub record LentTo (stop l : ℕ) (cs : List ℤ) (ks : List ℕ) : Type 0 where
+  pub root : 2 ≤ length cs
+  pub details : (j : ℕ) → suc j < l → stop < 2 ^ (l - j) → 4 * 2 ^ j ≤ length cs
+  pub codes : stop < 2 → 2 ^ l ≤ 2 * length ks
+
+-- What a visit needs to go on from a node: it is one of a table that is not too large and is lent so far.
+pub record Below (stop : ℕ) (cs : List ℤ) (ks : List ℕ) (at : Reached) : Type 0 where
+  pub levels : ℕ
+  pub node : Node
+  pub most : levels ≤ largestLevel
+  pub table : LentTo stop levels cs ks
+  pub located : Located levels node (at .id .0) (at .from .0) (at .hours)
   pub readings : Readings (at .range)
-  pub details : (at .id .0 + 1) * (at .hours / 2) ≤ length cs
-  pub codes : at .from .0 + at .hours ≤ 2 * length ks
 
 -- Pairs have two hours, and every node above them four or more. [hours 9]
 abbrev pub isPairOf : ℕ → Bool

@@ -1,13 +1,13 @@
 -- What a step down and the visit over opened nodes promise. Cited by the contracts of this crate and of the columns.
 -- Assumes nothing.
 --
---   halvesAt l n t v     the halves of node v if it is sound; SteppedDown, what a step from there answers
---   Steps                what a step needs of a node, whatever its hours; SteppedFrom, its contract
---   visitCheck r         what a visit says, as a check
---   StopsAt l d x stop   the visit is for depth d, whose nodes cover `stop` hours, and a column x that has an hour
---   Visits               what a visit says of node v and the nodes below it
---   InnerBelow cs ks i   the first and the last node of an inner range are lent, with all below them
---   VisitedFrom          the contract of the visit below a node; TableVisited, of that from the root values
+--   halvesAt l n t v          the halves of node v if it is sound; SteppedDown, what a step from there answers
+--   Steps                     what a step needs of a node, whatever its hours; SteppedFrom, its contract
+--   visitCheck r              what a visit says, as a check
+--   StopsAt l d x stop        the visit is for depth d, whose nodes cover `stop` hours, and a column x that has an hour
+--   Visits                    what a visit says of node v and the nodes below it
+--   InnerBelow stop cs ks i   the first and the last node of an inner range are nodes of a table that is lent so far
+--   VisitedFrom               the contract of the visit below a node; TableVisited, of that from the root values
 use mathlib.Core.{Path._≡_, List.List}
 use mathlib.Core.Bool.{Bool, true, false, cond}
 use Prim.Native.Nat.{ℕ, suc, _+_, _*_, _-_, _^_, _≤_, _<_}
@@ -61,23 +61,23 @@ pub record Visits (l n : ℕ) (t : Table) (x : Column) (d c : ℕ) (v : Node) (r
   pub examined : visitCheck r ≡ examineNodes l n t (keep (opened l t x d) (nodesBelow (suc (l - v .level)) v))
   pub saw : (s : Seen) → r ≡ Visited.Through s → s ≡ seenOf l t x d c v
 
--- The first and the last inner node are lent, with all below them.
-abbrev pub InnerBelow : List ℤ → List ℕ → Inner → Type 0
-InnerBelow cs ks Inner.Nothing = Unit
-InnerBelow cs ks (Inner.Nodes range first last) = Below cs ks first × Below cs ks last
+-- The first and the last inner node are nodes of a table that is lent so far.
+abbrev pub InnerBelow : ℕ → List ℤ → List ℕ → Inner → Type 0
+InnerBelow stop cs ks Inner.Nothing = Unit
+InnerBelow stop cs ks (Inner.Nodes range first last) = Below stop cs ks first × Below stop cs ks last
 
 -- Below a visited node; no more nodes are opened than it covers hours, less one.
 pub record VisitedFrom (n : ℕ) (cs : List ℤ) (ks : List ℕ) (x : Column) (stop c : ℕ) (at : Reached) (r : Visited)
     : Type 0 where
   pub few : (s : Seen) → r ≡ Visited.Through s → s .opened + 1 ≤ c + at .hours
-  pub below : (s : Seen) → r ≡ Visited.Through s → InnerBelow cs ks (s .inner)
+  pub below : (s : Seen) → r ≡ Visited.Through s → InnerBelow stop cs ks (s .inner)
   pub visits : (l d : ℕ) (v : Node) → StopsAt l d x stop → At l (lent cs ks) v at → visited l (lent cs ks) x d v ≡ true
       → Visits l n (lent cs ks) x d c v r
 
 -- From the root values: node 0 is examined first, and node 1 is visited. [columns 8, 16]
 pub record TableVisited (n : ℕ) (cs : List ℤ) (ks : List ℕ) (x : Column) (stop : ℕ) (r : Visited) : Type 0 where
   pub few : (s : Seen) → r ≡ Visited.Through s → s .opened < P n
-  pub below : (s : Seen) → r ≡ Visited.Through s → InnerBelow cs ks (s .inner)
+  pub below : (s : Seen) → r ≡ Visited.Through s → InnerBelow stop cs ks (s .inner)
   pub examined : (d : ℕ) → StopsAt (levels n) d x stop
       → visitCheck r ≡ examine (levels n) n (lent cs ks) (openedNodes (levels n) (lent cs ks) x d)
   pub saw : (d : ℕ) → StopsAt (levels n) d x stop → (s : Seen) → r ≡ Visited.Through s

@@ -12,10 +12,10 @@ use words::Range;
 use words::Reading;
 use words::Timestamp;
 ghost use mathlib.Core.Path.{_≡_};
-ghost use Prim.Native.Nat.{_+_, _*_, _≤_};
-ghost use lib.ListN.{length};
-ghost use Rattle.sizes.specs.Lent.{TableLent};
-ghost use Rattle.walking.specs.Nodes.{Below};
+ghost use Prim.Native.Nat.{_+_, _≤_};
+ghost use Rattle.words.specs.Constants.{largestHours};
+ghost use Rattle.om3.specs.Series.{levels, P};
+ghost use Rattle.walking.specs.Nodes.{LentTo, Below};
 ghost use Rattle.walking.specs.Visiting.{Steps, SteppedFrom, VisitedFrom, TableVisited};
 ghost use Rattle.walking.specs.Narrowing.{NarrowedFrom};
 ghost use Rattle.walking.specs.Walking.{takesLeft, WalkedFrom};
@@ -103,8 +103,8 @@ fn step(
 }
 
 // Visits from a node on, opening each that is to be opened, as long as no more than one of the two halves touches the
-// column. The node's range is one of readings; its details and codes, and those below it, are there; not too many nodes
-// were opened before, and `stop` is 1 or more.
+// column. The node is one of a table whose details and codes are there for nodes of more than `stop` hours, and its
+// range is one of readings; not too many nodes were opened before, and `stop` is 1 or more.
 fn narrow(
     n: usize,
     coefficients: &[i32],
@@ -114,8 +114,8 @@ fn narrow(
     before: usize,
     start: Reached,
 ) -> Narrowed
-    requires { ⌜ Below (now coefficients) (now codes) start ⌝ }
-    requires { ⌜ before + start .hours ≤ 2 * length (now codes) ⌝ }
+    requires { ⌜ Below stop (now coefficients) (now codes) start ⌝ }
+    requires { ⌜ before + start .hours ≤ largestHours ⌝ }
     requires { ⌜ 1 ≤ stop ⌝ }
     ensures { λ r. ⌜ NarrowedFrom n (now (coefficients .entry)) (now (codes .entry)) x stop before start r ⌝ }
 {
@@ -161,8 +161,8 @@ fn visit(
     before: usize,
     start: Reached,
 ) -> Visited
-    requires { ⌜ Below (now coefficients) (now codes) start ⌝ }
-    requires { ⌜ before + start .hours ≤ 2 * length (now codes) ⌝ }
+    requires { ⌜ Below stop (now coefficients) (now codes) start ⌝ }
+    requires { ⌜ before + start .hours ≤ largestHours ⌝ }
     requires { ⌜ 1 ≤ stop ⌝ }
     ensures { λ r. ⌜ VisitedFrom n (now (coefficients .entry)) (now (codes .entry)) x stop before start r ⌝ }
 {
@@ -187,10 +187,18 @@ fn visit(
     }
 }
 
-// Visits a table for a column that has an hour, from the root values down to nodes that cover `stop` hours, 1 or more.
-// n is not too many hours, and both buffers are long enough.
-pub fn visit_table(n: usize, coefficients: &[i32], codes: &[u8], x: Column, stop: usize) -> Visited
-    requires { ⌜ TableLent n (now coefficients) (now codes) ⌝ }
+// Visits a table of n hours and p = P places for a column that has an hour, from the root values down to nodes that
+// cover `stop` hours, 1 or more. Of the details and codes only those are needed that nodes of more hours have.
+pub fn visit_table(
+    n: usize,
+    p: usize,
+    coefficients: &[i32],
+    codes: &[u8],
+    x: Column,
+    stop: usize,
+) -> Visited
+    requires { ⌜ p ≡ P n ⌝ }
+    requires { ⌜ LentTo stop (levels n) (now coefficients) (now codes) ⌝ }
     requires { ⌜ 1 ≤ stop ⌝ }
     ensures { λ r. ⌜ TableVisited n (now (coefficients .entry)) (now (codes .entry)) x stop r ⌝ }
 {
@@ -198,7 +206,6 @@ pub fn visit_table(n: usize, coefficients: &[i32], codes: &[u8], x: Column, stop
     let Root::Sound(range) = root else {
         return Visited::Unsound(NodeId(0));
     };
-    let p = sizes::places(n);
     let top = Reached {
         id: NodeId(1),
         from: Timestamp(0),
@@ -225,8 +232,8 @@ fn takes_left(towards: Towards, left: Range, right: Range) -> bool
     }
 }
 
-// Walks from a node to its first or to its last reading, examining each node on the way down to the pair. The node's
-// range is one of readings; its details and codes, and those below it, are there.
+// Walks from a node to its first or to its last reading, examining each node on the way down to the pair. The node is
+// one of a table whose details and codes are all there, and its range is one of readings.
 pub fn walk(
     n: usize,
     coefficients: &[i32],
@@ -234,7 +241,7 @@ pub fn walk(
     towards: Towards,
     start: Reached,
 ) -> Walked
-    requires { ⌜ Below (now coefficients) (now codes) start ⌝ }
+    requires { ⌜ Below 1 (now coefficients) (now codes) start ⌝ }
     ensures { λ r. ⌜ WalkedFrom n (now (coefficients .entry)) (now (codes .entry)) towards 0 start r ⌝ }
 {
     let mut at = start;

@@ -52,7 +52,7 @@ pub fn write_record(n: usize, coefficients: &[i32], codes: &[u8], bytes: &mut [u
     if bytes.len() < size {
         return Writing::Refused(Refusal::ShortBuffer);
     }
-    if let Verdict::Unsound(i) = examining::examine(n, coefficients, codes) {
+    if let Verdict::Unsound(i) = examining::examine(n, places, coefficients, codes) {
         return Writing::Refused(Refusal::Unsound(i));
     }
     put_record(n, &coefficients[..places], &codes[..places / 2], bytes);

@@ -2,6 +2,7 @@
 -- nothing.
 use Rattle.kit.proofs.{refl, arith, needs}
 use Rattle.om3.proofs.Levels.{P-most}
+use Rattle.walking.proofs.Lending.{whole-lent}
 use Rattle.walking.specs.Visiting.{TableVisited}
 use Rattle.walking.specs.declared.Visited.{Visited}
 use Rattle.columns.proofs.Finishing as laws
@@ -20,6 +21,11 @@ through c = rw (c .seen .given .1) at (c .before .before .visit-table .ensures)
 returns : tie.Need-returns
 returns c = laws.finished-none _ _ _ _ (c .if1 .taken)
 
+visit-table-requires : tie.Need-visit-table-requires
+visit-table-requires c κs =
+    let start = c .before .before .before in
+    (start .pre .0, (whole-lent _ _ _ (start .pre .1) 1, omega arith))
+
 count-of-requires : tie.Need-count-of-requires
 count-of-requires c κs =
     let start = hour-at (c .before) .before .before .before in
@@ -33,14 +39,8 @@ found-requires c κs =
     let e = c .before .nodes .given .1 in
     let t = through c5 in
     let some = else .if1 .left in
-    let N = laws.inner-nodes _ _ _ _ some _ t _ _ _ e in (
-      laws.nodes-below _ _ _ _ some _ t _ _ _ e,
-      (
-        laws.first-hours _ _ _ _ _ _ N,
-        laws.last-hours _ _ _ _ _ _ N,
-        omega (arith, t .few _ refl, P-most (start .args .n), c .before .before .before .count-of .ensures),
-      ),
-    )
+    let count = c .before .before .before .count-of .ensures in
+    (laws.nodes-below _ _ _ _ some _ t _ _ _ e, omega (arith, t .few _ refl, P-most (start .args .n), count))
 
 returns-2 : tie.Need-returns-2
 returns-2 c =
@@ -63,5 +63,5 @@ returns-4 c =
 pub finished-over-spec : {M : Type 1} → statement M
 finished-over-spec =
     tie.close
-    (tie.spec returns (λ c κs. search needs) (λ c. search needs) (λ c. search needs) count-of-requires
+    (tie.spec returns visit-table-requires (λ c. search needs) (λ c. search needs) count-of-requires
     (λ c. search needs) (λ c. search needs) found-requires returns-2 returns-3 returns-4)

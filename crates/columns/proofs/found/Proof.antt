@@ -1,6 +1,7 @@
 -- `found` walks to the first reading and, if it came there, to the last. Assumes nothing.
 use Rattle.kit.proofs.{refl, arith, needs}
 use Rattle.signed.proofs.{reads-back}
+use Rattle.walking.proofs.Lending.{ends-within}
 use Rattle.walking.specs.Walking.{WalkedFrom}
 use Rattle.walking.specs.declared.{Walked.Walked, Towards.Towards}
 use Rattle.columns.proofs.Founding as laws
@@ -26,13 +27,15 @@ add-walked : tie.Need-add-walked
 add-walked c =
     let c5 = c .before .before .before .before .before in
     let start = c5 .before .before .before .before in
-    omega (arith, came-first c5 .few _ _ refl, start .pre .1)
+    omega (arith, came-first c5 .few _ _ refl, ends-within (start .pre .0 .0), start .pre .1)
 
 add-walked-2 : tie.Need-add-walked-2
 add-walked-2 c =
     let c1 = c .before in
     let c5 = c1 .before .before .before .before in
     let start = c5 .before .before .before .before in
+    let first = ends-within (start .pre .0 .0) in
+    let last = ends-within (start .pre .0 .1) in
     omega (arith, came-first c5 .few _ _ refl, came-last c1 .few _ _ refl, start .pre .1)
 
 returns : tie.Need-returns

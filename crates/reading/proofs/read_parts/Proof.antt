@@ -1,6 +1,6 @@
 -- `read_parts` makes checks 3 and 4 in their order, each of which refuses with nothing written, and then unpacks the
 -- coefficients and copies the codes of a sound table. Assumes nothing.
-use Rattle.kit.proofs.{_≡_, sym, _∙_, false, _/_, _≤_, length, length-take-le, needs}
+use Rattle.kit.proofs.{_≡_, sym, _∙_, false, _≤_, arith, length, length-take-le, needs}
 use Rattle.om3.specs.Document.{lent, tableShort}
 use Rattle.reading.proofs.ReadingParts as laws
 use Rattle.reading.proofs.read_parts.Statement.{statement}
@@ -19,8 +19,8 @@ table-found : (c : tie.After-table-short) →
     c .table-short .result ≡ tableShort (a .n) (lent (a .coefficients .now) (a .codes .now)))
 table-found c =
     let a = startOf c .args in
-    laws.lent-short (a .n) (a .packed .now) (a .codes-in .now) (a .coefficients .now) (a .codes .now) (startOf c .pre)
-    (c .table-short .result) (c .table-short .ensures)
+    laws.lent-short (a .n) (a .places) (a .packed .now) (a .codes-in .now) (a .coefficients .now) (a .codes .now)
+    (startOf c .pre) (c .table-short .result) (c .table-short .ensures)
 
 -- Check 3 has passed.
 room : (c : tie.Else1) →
@@ -31,21 +31,21 @@ room c = sym (table-found (c .before)) ∙ c .if1 .left
 -- So both buffers have room for what is unpacked.
 coefficients-fit : (c : tie.Else1) →
     (let a = start c .args in
-    length (a .packed .now) / 3 ≤ length (a .coefficients .now))
+    a .places ≤ length (a .coefficients .now))
 coefficients-fit c =
     let a = start c .args in
-    laws.coefficients-fit (a .n) (a .packed .now) (a .codes-in .now) (a .coefficients .now) (a .codes .now)
-    (start c .pre) (room c)
+    laws.coefficients-fit (a .n) (a .places) (a .packed .now) (a .codes-in .now) (a .coefficients .now)
+    (a .codes .now) (start c .pre) (room c)
 
 returns : tie.Need-returns
 returns c =
-    laws.short-table _ _ _ _ _ (startOf (c .before) .pre) (sym (table-found (c .before)) ∙ c .if1 .taken)
+    laws.short-table _ _ _ _ _ _ (startOf (c .before) .pre) (sym (table-found (c .before)) ∙ c .if1 .taken)
 
 returns-2 : tie.Need-returns-2
 returns-2 c =
     let examined = c .before .before .before in
     let passed = examined .before in
-    laws.unsound-refused _ _ _ _ _ (start passed .pre) (room passed) _ (examined .examine .ensures) _
+    laws.unsound-refused _ _ _ _ _ _ (start passed .pre) (room passed) _ (examined .examine .ensures) _
     (c .before .i .given .1)
 
 slice-relend-prefix-unpack : tie.Need-slice-relend-prefix-unpack
@@ -59,13 +59,13 @@ slice-aggregate-unpack c =
 unpack-requires : tie.Need-unpack-requires
 unpack-requires c κs =
     let passed = c .before .before .before .before in
-    length-take-le _ _ (coefficients-fit passed)
+    length-take-le _ _ (coefficients-fit passed) ∙ omega (arith, start passed .pre .coefficients)
 
 copy-requires : tie.Need-copy-requires
 copy-requires c κs =
     let passed = c .before .before .before .before .before .before .before in
     let a = start passed .args in
-    laws.codes-fit (a .n) (a .packed .now) (a .codes-in .now) (a .coefficients .now) (a .codes .now)
+    laws.codes-fit (a .n) (a .places) (a .packed .now) (a .codes-in .now) (a .coefficients .now) (a .codes .now)
     (start passed .pre) (room passed)
 
 returns-3 : tie.Need-returns-3
@@ -74,7 +74,7 @@ returns-3 c =
     let told = unpacked .before .before in
     let examined = told .before .before in
     let passed = examined .before in
-    laws.table-read _ _ _ _ _ (start passed .pre) (room passed) _ (examined .examine .ensures)
+    laws.table-read _ _ _ _ _ _ (start passed .pre) (room passed) _ (examined .examine .ensures)
     (told .enum-told .given .1) _ (unpacked .unpack .ensures) _ (c .before .before .copy .ensures .1)
 
 pub read-parts-spec : {M : Type 1} → statement M

@@ -1,27 +1,27 @@
--- `places` doubles from 2 on. The invariant: p is a power of two up to P. The measure is what p lacks of n. Assumes
--- nothing.
-use Rattle.kit.proofs.{_-_, arith}
+-- `places` answers 2 for two hours or fewer; of more, n − 1 has l bits, and P is 1 shifted left by l. Assumes nothing.
+use Rattle.kit.proofs.{_≡_, ap, _∙_, ℕ, _-_, _^_, arith, needs}
+use lib.Count.{leadingZeros, leading-le}
+use Rattle.om3.specs.Document.{levels}
+use Rattle.om3.proofs.Levels.{levels-most}
+use Rattle.sizes.proofs.Powers.{two-places, bits-levels, shifted}
 use Rattle.sizes.proofs.places.Statement.{statement}
 use Rattle.sizes.proofs.places.Tie as tie
-use Rattle.sizes.proofs.Powers.{Power, power-two, power-double, power-done}
 
-abbrev Inv-loop : tie.InvT-loop
-Inv-loop n p₀ p = Power n p
+-- The bits of n − 1, where n is over 2.
+bits : (c : tie.Else1) → 64 - leadingZeros 64 (c .before .args .n - 1) ≡ levels (c .before .args .n)
+bits c = bits-levels (c .before .args .n) (c .if1 .left) (c .before .pre) (omega (arith, c .before .fits .n .fits))
 
-abbrev μ-loop : tie.MeasureT-loop
-μ-loop n p₀ p = n - p
+returns : tie.Need-returns
+returns c = two-places (c .before .args .n) (c .if1 .taken)
 
-loop-holds : tie.Need-loop-holds Inv-loop μ-loop
-loop-holds c = power-two (c .args .n)
+sub-l-2 : tie.Need-sub-l-2
+sub-l-2 c = leading-le 64 (c .before .args .n - 1)
 
-loop-less : tie.Need-loop-less Inv-loop μ-loop
-loop-less c = omega (arith, c .before .loop .inv .two)
+shl-result : tie.Need-shl-result
+shl-result c = omega (arith, bits c, levels-most (c .before .args .n))
 
-loop-again : tie.Need-loop-again Inv-loop μ-loop
-loop-again c = power-double _ _ (c .before .loop .inv) (c .before .before .pre) (omega arith)
-
-returns : tie.Need-returns Inv-loop μ-loop
-returns c = power-done _ _ (c .before .loop .inv) (omega arith)
+returns-2 : tie.Need-returns-2
+returns-2 c = rw (bits c) (shifted (levels (c .before .args .n)) (levels-most (c .before .args .n)))
 
 pub places-spec : {M : Type 1} → statement M
-places-spec = tie.close (tie.spec Inv-loop μ-loop loop-holds (λ c. omega arith) loop-less loop-again returns)
+places-spec = tie.close (tie.spec returns (λ c. search needs) sub-l-2 (λ c. search needs) shl-result returns-2)

@@ -5,6 +5,7 @@ use borrow.Fn.Kinds.{In}
 use borrow.Fn.PlainCycle.{Measures, is, falls, and}
 use Rattle.walking.specs.{Visiting.VisitedFrom, Narrowing.EndsAt, Narrowing.SplitsAt}
 use Rattle.walking.specs.declared.Visited.{Visited}
+use Rattle.walking.proofs.Lending.{some-hours, ends-within}
 use Rattle.walking.proofs.Visiting as laws
 use Rattle.walking.proofs.visit.Reads as own
 use Rattle.walking.proofs.visit.Kinds as kinds
@@ -63,33 +64,17 @@ left-seen t c = rw (c .left .given .1) at (c .before .before .visit .ensures)
 narrow-requires : (t : ℕ) → lts.Need-narrow-requires (callees t) (at t) own.Post
 narrow-requires t c κs = c .before .pre .1
 
-enum-known-i : (t : ℕ) → lts.Need-enum-known-i (callees t) (at t) own.Post
-enum-known-i t c = search needs
-
-enum-known-at : (t : ℕ) → lts.Need-enum-known-at (callees t) (at t) own.Post
-enum-known-at t c = search needs
-
 unopened-requires : (t : ℕ) → lts.Need-unopened-requires (callees t) (at t) own.Post
 unopened-requires t c κs =
-    let start = c .before .before .before .before .before in
-    omega (arith, ended t (c .before) .lent .codes, start .good)
-
-enum-known-first : (t : ℕ) → lts.Need-enum-known-first (callees t) (at t) own.Post
-enum-known-first t c = search needs
+    omega (arith, ends-within (ended t (c .before) .lent))
 
 visit-requires : (t : ℕ) → lts.Need-visit-requires (callees t) (at t) own.Post
 visit-requires t c κs =
     let start = c .before .before .before .before .before in
     let s = split t (c .before) in (
       omega (arith, s .less-first, start .pre .0),
-      (s .before, (omega (arith, s .room, s .after .some), start .pre .1 .1 .1)),
+      (s .before, (omega (arith, s .room, some-hours (s .after)), start .pre .1 .1 .1)),
     )
-
-enum-known-left : (t : ℕ) → lts.Need-enum-known-left (callees t) (at t) own.Post
-enum-known-left t c = search needs
-
-enum-told : (t : ℕ) → lts.Need-enum-told (callees t) (at t) own.Post
-enum-told t c = search needs
 
 returns : (t : ℕ) → lts.Need-returns (callees t) (at t) own.Post
 returns t c =
@@ -105,12 +90,6 @@ visit-requires-2 t c κs =
     let few = left-seen t (c .before) .few _ refl in
     (omega (arith, s .less-second, start .pre .0), (s .after, (omega (arith, s .room), start .pre .1 .1 .1)))
 
-enum-known-right : (t : ℕ) → lts.Need-enum-known-right (callees t) (at t) own.Post
-enum-known-right t c = search needs
-
-enum-told-2 : (t : ℕ) → lts.Need-enum-told-2 (callees t) (at t) own.Post
-enum-told-2 t c = search needs
-
 returns-2 : (t : ℕ) → lts.Need-returns-2 (callees t) (at t) own.Post
 returns-2 t c =
     let c2 = c .before .before in
@@ -119,9 +98,6 @@ returns-2 t c =
     rw told
     (split t (c4 .before .before .before .before) .right-unsound _ (left-seen t c4) _
     (rw told at (c2 .visit2 .ensures)))
-
-both-seen-requires : (t : ℕ) → lts.Need-both-seen-requires (callees t) (at t) own.Post
-both-seen-requires t c κs = search needs
 
 returns-3 : (t : ℕ) → lts.Need-returns-3 (callees t) (at t) own.Post
 returns-3 t c = rw (c .before .i .given .1) at (c .before .before .before .narrow .ensures)
@@ -141,21 +117,7 @@ returns-5 t c =
 pub +visit-spec : {M : Type 1} → statement M
 +visit-spec =
     close hoursOf λ t.
-    lts.spec (callees t) (at t) own.Post
-    (narrow-requires t)
-    (enum-known-i t)
-    (enum-known-at t)
-    (unopened-requires t)
-    (enum-known-first t)
-    (visit-requires t)
-    (enum-known-left t)
-    (enum-told t)
-    (returns t)
-    (visit-requires-2 t)
-    (enum-known-right t)
-    (enum-told-2 t)
-    (returns-2 t)
-    (both-seen-requires t)
-    (returns-3 t)
-    (returns-4 t)
-    (returns-5 t)
+    lts.spec (callees t) (at t) own.Post (narrow-requires t) (λ c. search needs) (λ c. search needs)
+    (unopened-requires t) (λ c. search needs) (visit-requires t) (λ c. search needs) (λ c. search needs) (returns t)
+    (visit-requires-2 t) (λ c. search needs) (λ c. search needs) (returns-2 t) (λ c κs. search needs) (returns-3 t)
+    (returns-4 t) (returns-5 t)

@@ -3,7 +3,8 @@
 use Rattle.kit.proofs.{_≡_, sym, _∙_, true, _+_, _*_, _^_, _≤_, _<_, arith, needs}
 use Rattle.node.specs.declared.Halves.{Halves}
 use Rattle.walking.specs.{Nodes.openedOf, Visiting.SteppedDown}
-use Rattle.walking.proofs.{Lending.steps, Lending.small-number, Narrowing.CameTo}
+use Rattle.walking.proofs.{Narrowing.CameTo}
+use Rattle.walking.proofs.Lending.{steps, small-number, ends-within}
 use Rattle.walking.proofs.Narrowing as laws
 use Rattle.walking.proofs.narrow.Statement.{statement}
 use Rattle.walking.proofs.narrow.Tie as tie
@@ -24,7 +25,7 @@ came c = rw (c .before .copy-node .ensures) at (c .loop .inv)
 
 -- The node that the visit is at ends at an hour that is counted without overflow.
 ends-early : (c : tie.At-loop Inv-loop μ-loop) → c .loop .at .from .0 + c .loop .at .hours < 2 ^ 64
-ends-early c = omega (arith, c .loop .inv .below .codes, c .before .before .before .good)
+ends-early c = omega (arith, ends-within (c .loop .inv .below))
 
 -- It is opened, so it covers two hours or more, and its number can be doubled.
 opens : (c : tie.Then1 Inv-loop μ-loop) →
@@ -32,15 +33,21 @@ opens : (c : tie.Then1 Inv-loop μ-loop) →
     openedOf (start .args .x) (start .args .stop) (c .before .before .loop .at) ≡ true)
 opens c = sym (c .before .is-opened .ensures) ∙ c .if1 .taken
 
+wide : (c : tie.Then1 Inv-loop μ-loop) →
+    (let here = c .before .before in
+    here .before .before .before .args .stop < here .loop .at .hours)
+wide c =
+    let here = c .before .before in
+    let a = here .before .before .before .args in
+    laws.opened-wide (a .x) (a .stop) (here .loop .at) (opens c)
+
 two-hours : (c : tie.Then1 Inv-loop μ-loop) → 2 ≤ c .before .before .loop .at .hours
 two-hours c =
-    let start = c .before .before .before .before .before in
-    laws.opened-hours (start .args .x) (start .args .stop) (c .before .before .loop .at) (start .pre .1 .1) (opens c)
+    let here = c .before .before in
+    omega (arith, wide c, here .before .before .before .pre .1 .1)
 
 small : (c : tie.Then1 Inv-loop μ-loop) → 2 * c .before .before .loop .at .id .0 < 2 ^ 63
-small c =
-    let here = c .before .before in
-    omega (arith, small-number _ _ _ (here .loop .inv .below) (two-hours c), here .before .before .before .good)
+small c = omega (arith, small-number (c .before .before .loop .inv .below))
 
 -- Where a step, the halves that it gave, and both halves as nodes come from: a node that is opened.
 abbrev steps-from : tie.After-is-pair Inv-loop μ-loop → tie.Then1 Inv-loop μ-loop
@@ -80,7 +87,7 @@ is-opened-requires c κs = ends-early c
 step-requires : tie.Need-step-requires Inv-loop μ-loop
 step-requires c κs =
     let then = steps-from c in
-    rw (c .is-pair .ensures) (steps _ _ _ (then .before .before .loop .inv .below) (two-hours then))
+    rw (c .is-pair .ensures) (steps (then .before .before .loop .inv .below) (wide then) (two-hours then))
 
 returns : tie.Need-returns Inv-loop μ-loop
 returns c =
@@ -101,7 +108,7 @@ right-half-requires c κs =
 add-opened : tie.Need-add-opened Inv-loop μ-loop
 add-opened c =
     let here = opened-at c .before .before in
-    omega (arith, here .loop .inv .room, here .loop .inv .below .some, here .before .before .before .good)
+    omega (arith, here .loop .inv .room)
 
 touches-requires : tie.Need-touches-requires Inv-loop μ-loop
 touches-requires c κs = rw (c .right-half .ensures) (omega (arith, ends-early (opened-at c .before .before)))

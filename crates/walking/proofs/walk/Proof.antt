@@ -4,7 +4,8 @@ use Rattle.kit.proofs.{sym, _∙_, _*_, _^_, _<_, arith, needs}
 use Rattle.signed.proofs.{reads-back}
 use Rattle.node.specs.declared.Halves.{Halves}
 use Rattle.walking.specs.Visiting.{SteppedDown}
-use Rattle.walking.proofs.{Lending.steps, Lending.small-number, Walking.CameTo}
+use Rattle.walking.proofs.{Walking.CameTo}
+use Rattle.walking.proofs.Lending.{steps, small-number, ends-within}
 use Rattle.walking.proofs.Walking as laws
 use Rattle.walking.proofs.walk.Statement.{statement}
 use Rattle.walking.proofs.walk.Tie as tie
@@ -17,9 +18,7 @@ abbrev μ-loop : tie.MeasureT-loop
 
 -- The number of a node of two hours or more can be doubled.
 small : (c : tie.Then1 Inv-loop μ-loop) → 2 * c .before .before .loop .at .id .0 < 2 ^ 63
-small c =
-    let here = c .before .before in
-    omega (arith, small-number _ _ _ (here .loop .inv .below) (c .if1 .taken), here .before .before .good)
+small c = omega (arith, small-number (c .before .before .loop .inv .below))
 
 -- Where a step, and the halves that it gave, come from: a node of two hours or more.
 abbrev steps-from : tie.After-is-pair Inv-loop μ-loop → tie.Then1 Inv-loop μ-loop
@@ -49,7 +48,7 @@ loop-holds c = laws.at-start _ _ _ _ _ (c .before .pre)
 step-requires : tie.Need-step-requires Inv-loop μ-loop
 step-requires c κs =
     let then = steps-from c in
-    rw (c .is-pair .ensures) (steps _ _ _ (then .before .before .loop .inv .below) (then .if1 .taken))
+    rw (c .is-pair .ensures) (steps (then .before .before .loop .inv .below) (then .if1 .taken) (then .if1 .taken))
 
 returns : tie.Need-returns Inv-loop μ-loop
 returns c =
@@ -62,7 +61,7 @@ returns c =
 add-levels : tie.Need-add-levels Inv-loop μ-loop
 add-levels c =
     let here = split-at (c .before) .before .before in
-    omega (arith, here .loop .inv .room, here .before .before .pre .codes, here .before .before .good)
+    omega (arith, here .loop .inv .room, ends-within (here .before .before .pre))
 
 left-half-requires : tie.Need-left-half-requires Inv-loop μ-loop
 left-half-requires c κs = small (split-at (c .before .before .before))
@@ -83,8 +82,7 @@ loop-again c =
 right-half-requires : tie.Need-right-half-requires Inv-loop μ-loop
 right-half-requires c κs =
     let then = split-at (c .before .before .before) in
-    let here = then .before .before in
-    (small then, omega (arith, here .loop .inv .below .codes, here .before .before .good))
+    (small then, omega (arith, ends-within (then .before .before .loop .inv .below)))
 
 loop-less-2 : tie.Need-loop-less-2 Inv-loop μ-loop
 loop-less-2 c =

@@ -75,7 +75,9 @@ returns-3 c =
     (rw (size-right (c .before)) at (c .if3 .taken))
 
 examine-requires : tie.Need-examine-requires
-examine-requires c κs = fits c .table
+examine-requires c κs =
+    let found = c .before .before .before in
+    (found .before .places .ensures, fits c .table)
 
 returns-4 : tie.Need-returns-4
 returns-4 c =
