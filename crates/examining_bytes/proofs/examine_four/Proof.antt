@@ -1,47 +1,28 @@
 -- `examine_four` examines the node and then its pairs. Assumes nothing.
-use mathlib.Core.Path.{sym, _∙_}
 use borrow.Author.Needs.{needs}
 use Rattle.examining.proofs.Examining as laws
 use Rattle.examining_bytes.proofs.examine_four.Statement.{statement}
 use Rattle.examining_bytes.proofs.examine_four.Tie as tie
 
-mul-left-number : tie.Need-mul-left-number
-mul-left-number c = search needs
-
-halves-at-requires : tie.Need-halves-at-requires
-halves-at-requires c κs = search needs
-
-enum-known-halves : tie.Need-enum-known-halves
-enum-known-halves c = search needs
-
-enum-told : tie.Need-enum-told
-enum-told c = search needs
-
 returns : tie.Need-returns
 returns c =
-    let h = sym (c .before .before .halves-at .ensures) ∙ c .enum-told .given .1 in
-    record { four = λ w wide eight. laws.details-unsound _ _ _ _ _ w _ wide h }
-
-examine-pairs-requires : tie.Need-examine-pairs-requires
-examine-pairs-requires c κs = search needs
+    record {
+      four = λ w wide eight.
+          laws.details-unsound _ _ _ _ _ w _ wide (c .enum-told .given .1) (c .before .before .halves-at .ensures);
+    }
 
 returns-2 : tie.Need-returns-2
 returns-2 c =
-    let c2 = c .before .before in
-    let h = sym (c2 .before .before .halves-at .ensures) ∙ c2 .halves .given .1 in
+    let told = c .before .before in
+    let answered = told .before .before in
     record {
       four = λ w wide eight.
-          laws.pairs-examined _ _ _ _ _ w _ wide eight _ _ h _ (c .examine-pairs .ensures);
+          laws.pairs-examined _ _ _ _ _ w _ wide _ _ (told .halves .given .1) (answered .halves-at .ensures) eight _
+          (c .examine-pairs .ensures);
     }
 
 pub examine-four-spec : {M : Type 1} → statement M
 examine-four-spec =
     tie.close
-    (tie.spec
-    mul-left-number
-    halves-at-requires
-    enum-known-halves
-    enum-told
-    returns
-    examine-pairs-requires
-    returns-2)
+    (tie.spec (λ c. search needs) (λ c κs. search needs) (λ c. search needs) (λ c. search needs) returns
+    (λ c κs. search needs) returns-2)

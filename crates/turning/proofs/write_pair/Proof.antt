@@ -1,58 +1,12 @@
 -- `write_pair` takes the step down at a pair and writes both hours that come out. Assumes nothing.
-use mathlib.Core.Path.{sym, _∙_}
 use borrow.Author.Needs.{needs}
 use Rattle.turning.proofs.write_pair.Statement.{statement}
 use Rattle.turning.proofs.write_pair.Tie as tie
 use Rattle.turning.proofs.Writing as laws
 
-add-second : tie.Need-add-second
-add-second c = search needs
-
-shared-slice-read-pair-hours : tie.Need-shared-slice-read-pair-hours
-shared-slice-read-pair-hours c = search needs
-
-pair-hours-requires : tie.Need-pair-hours-requires
-pair-hours-requires c κs = search needs
-
-enum-known-pair : tie.Need-enum-known-pair
-enum-known-pair c = search needs
-
-put-requires : tie.Need-put-requires
-put-requires c κs = search needs
-
-put-requires-2 : tie.Need-put-requires-2
-put-requires-2 c κs = search needs
-
-enum-told : tie.Need-enum-told
-enum-told c = search needs
-
-same-length : tie.Need-same-length
-same-length c = search needs
-
-returns : tie.Need-returns
-returns c =
-    let c4 = c .before .before .before .before in
-    let c7 = c4 .before .before .before in
-    let h = sym (c7 .before .before .pair-hours .ensures) ∙ c7 .pair .given .1 in
-    rw (c .before .put2 .ensures, c4 .put .ensures)
-    (record { pair = λ cs i w two four. laws.pair-written _ _ _ _ _ _ _ two four _ _ h })
-
-returns-2 : tie.Need-returns-2
-returns-2 c =
-    let h = sym (c .before .before .pair-hours .ensures) ∙ c .enum-told .given .1 in
-    record { pair = λ cs i w two four. laws.pair-not-written _ _ _ _ _ _ _ two four h }
-
 pub write-pair-spec : {M : Type 1} → statement M
 write-pair-spec =
     tie.close
-    (tie.spec
-    add-second
-    shared-slice-read-pair-hours
-    pair-hours-requires
-    enum-known-pair
-    put-requires
-    put-requires-2
-    enum-told
-    same-length
-    returns
-    returns-2)
+    (tie.spec (λ c. search needs) (λ c. search needs) (λ c κs. search needs) (λ c. search needs) (λ c κs. search needs)
+    (λ c κs. search needs) (λ c. search needs) (λ c. search needs) (λ c. search laws.pair-written)
+    (λ c. search laws.pair-not-written))
