@@ -8,8 +8,6 @@ use native.Mathlib.Omega.{arith}
 use lib.IntN.{ℤ, pos}
 use lib.ListN.{getD}
 use lib.Signed.{mag}
-use mir.Syntax.{w32}
-use mir.Val.{toZ, ofZ}
 use Rattle.signed.proofs.Widths.{reads-back}
 use Rattle.words.specs.declared.NodeId.{NodeId}
 use Rattle.words.specs.declared.Range.{Range}
@@ -23,6 +21,7 @@ use Rattle.om3.specs.Sound.{soundDetails, soundCode, gapFrom, soundNode, nodesB
 use Rattle.node.specs.Located.{Located}
 use Rattle.om3.proofs.Nodes.{pair-yes, pair-no, pair-half, start-hour}
 use Rattle.node.proofs.Located.{above-hours, above-pairs, at-pair, pair-width, left-located, right-located}
+use Rattle.node.proofs.Told.{back}
 use Rattle.om3.proofs.Reached.{reached-left, reached-right}
 use Rattle.om3.proofs.SoundDetails.{details}
 use Rattle.om3.proofs.Examined.{in-order-append, then-passes}
@@ -51,7 +50,7 @@ module _ (r : Range) (cs : List ℤ) (i : ℕ) (p : Readings r) {a b : Range}
 -- The step down from node i, for details that were read back from their bits.
 pub details-told : (r : Range) (cs : List ℤ) (i : ℕ) {x : Halves}
     → (let d = getD cs (2 * i) (pos 0) in let e = getD cs (2 * i + 1) (pos 0) in
-    x ≡ halvesOf r (toZ w32 (ofZ w32 d)) (toZ w32 (ofZ w32 e)) → mag d < 2 ^ 31 → mag e < 2 ^ 31 → x ≡ halvesOf r d e)
+    x ≡ halvesOf r (back d) (back e) → mag d < 2 ^ 31 → mag e < 2 ^ 31 → x ≡ halvesOf r d e)
 details-told r cs i s dm em =
     rw (reads-back (getD cs (2 * i) (pos 0)) dm, reads-back (getD cs (2 * i + 1) (pos 0)) em) at s
 

@@ -7,8 +7,8 @@ use native.Mathlib.Omega.{arith}
 use lib.IntN.{ℤ, pos}
 use lib.ListN.{length, getD}
 use lib.Signed.{mag}
-use mir.Syntax.{w32, w64}
-use mir.Val.{Fits, toZ, ofZ}
+use mir.Syntax.{w64}
+use mir.Val.{Fits}
 use Rattle.signed.proofs.Widths.{reads-back}
 use Rattle.words.specs.declared.NodeId.{NodeId}
 use Rattle.words.specs.declared.Range.{Range}
@@ -17,6 +17,7 @@ use Rattle.node.specs.declared.Halves.{Halves}
 use Rattle.node.specs.declared.Root.{Root}
 use Rattle.node.specs.Steps.{halvesOf, rootOf}
 use Rattle.node.proofs.Rooms.{halved, both-places}
+use Rattle.node.proofs.Told.{back}
 use Rattle.examining.specs.declared.Verdict.{Verdict}
 use Rattle.examining.specs.Examining.{Examined}
 use Rattle.packing.specs.Packing.{coefficientFrom, unpacked}
@@ -34,7 +35,7 @@ module _ (bs : List ℕ) where
   module _ {x y : ℤ} where
     -- The step down from node i, for details read from their bytes and read back from their bits.
     pub details-read : (range : Range) (i : ℕ) {r : Halves} → x ≡ coefficientFrom bs (2 * i)
-        → y ≡ coefficientFrom bs (2 * i + 1) → r ≡ halvesOf range (toZ w32 (ofZ w32 x)) (toZ w32 (ofZ w32 y))
+        → y ≡ coefficientFrom bs (2 * i + 1) → r ≡ halvesOf range (back x) (back y)
         → mag x < 2 ^ 31 → mag y < 2 ^ 31 → 2 * i + 2 ≤ length bs / 3
         → r ≡ halvesOf range (getD (unpacked bs) (2 * i) (pos 0)) (getD (unpacked bs) (2 * i + 1) (pos 0))
     details-read range i p q e xm ym room =

@@ -76,6 +76,19 @@ module _ (f w size : ℕ) (hours : f + w ≤ 2 * size) where
   pub middle-fits : size * 1 < 2 ^ 63 → Fits w64 (f + w / 2)
   middle-fits h = omega arith
 
+-- The same after calls that kept the length of a buffer, one or two of them.
+module _ (size size₁ : ℕ) (kept : size₁ ≡ size) where
+  pub right-room-kept : (i w : ℕ) → (i + 1) * w ≤ size → (2 * i + 1 + 1) * (w / 2) ≤ size₁
+  right-room-kept i w room = omega (arith, right-room i w size room)
+
+  pub right-hours-kept : (f w : ℕ) → f + w ≤ 2 * size → f + w / 2 + w / 2 ≤ 2 * size₁
+  right-hours-kept f w hours = omega arith
+
+  pub both-places-kept : (i w size₂ : ℕ) → size₂ ≡ size₁ → (i + 1) * (w / 2) ≤ size → 4 ≤ w → 2 * i + 2 ≤ size₂
+  both-places-kept i w size₂ again room wide = omega (arith, both-places i w size room wide)
+
+pub ruleset kept = (right-room-kept, right-hours-kept, both-places-kept)
+
 pub ruleset halved = (
   left-room,
   right-room,

@@ -14,27 +14,31 @@ use Rattle.words.specs.Constants.{leftMark, rightMark}
 use Rattle.om3.specs.Series.{isReading, isGap}
 use Rattle.om3.specs.Sound.{isDetail}
 
+-- What the machine reads back from a number's bits.
+abbrev pub back : ℤ → ℤ
+back z = toZ w32 (ofZ w32 z)
+
 module _ (z : ℤ) {r b : Bool} (fits : SFits w32 z) where
-  pub gap-told : r ≡ isGap (toZ w32 (ofZ w32 z)) → r ≡ b → isGap z ≡ b
+  pub gap-told : r ≡ isGap (back z) → r ≡ b → isGap z ≡ b
   gap-told e h = told isGap z fits e h
 
-  pub reading-told : r ≡ isReading (toZ w32 (ofZ w32 z)) → r ≡ b → isReading z ≡ b
+  pub reading-told : r ≡ isReading (back z) → r ≡ b → isReading z ≡ b
   reading-told e h = told isReading z fits e h
 
-  pub left-mark-told : r ≡ isNumber leftMark (toZ w32 (ofZ w32 z)) → r ≡ b → isNumber leftMark z ≡ b
+  pub left-mark-told : r ≡ isNumber leftMark (back z) → r ≡ b → isNumber leftMark z ≡ b
   left-mark-told e h = told (isNumber leftMark) z fits e h
 
-  pub right-mark-told : r ≡ isNumber rightMark (toZ w32 (ofZ w32 z)) → r ≡ b → isNumber rightMark z ≡ b
+  pub right-mark-told : r ≡ isNumber rightMark (back z) → r ≡ b → isNumber rightMark z ≡ b
   right-mark-told e h = told (isNumber rightMark) z fits e h
 
-  pub detail-told : r ≡ isDetail (toZ w32 (ofZ w32 z)) → r ≡ b → isDetail z ≡ b
+  pub detail-told : r ≡ isDetail (back z) → r ≡ b → isDetail z ≡ b
   detail-told e h = told isDetail z fits e h
 
 module _ (x y : ℤ) {b : Bool} (xf : SFits w32 x) (yf : SFits w32 y) where
-  pub less-told : ltZ (toZ w32 (ofZ w32 x)) (toZ w32 (ofZ w32 y)) ≡ b → ltZ x y ≡ b
+  pub less-told : ltZ (back x) (back y) ≡ b → ltZ x y ≡ b
   less-told h = rw (toZ-ofZ xf, toZ-ofZ yf) at h
 
-  pub most-told : leZ (toZ w32 (ofZ w32 x)) (toZ w32 (ofZ w32 y)) ≡ b → leZ x y ≡ b
+  pub most-told : leZ (back x) (back y) ≡ b → leZ x y ≡ b
   most-told h = rw (toZ-ofZ xf, toZ-ofZ yf) at h
 
 pub ruleset told-tests = (
