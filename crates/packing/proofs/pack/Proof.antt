@@ -2,7 +2,8 @@
 use Prim.Native.Nat.{_-_}
 use lib.ListN.{length}
 use borrow.Author.Needs.{needs}
-use Rattle.packing.proofs.Packed.{in-three, Packed, packed-none, packed-length, packed-room, packed-more, packed-all}
+use Rattle.packing.proofs.Packed.{in-three, Packed, packed-none, packed-length, packed-room, packed-more}
+use Rattle.packing.proofs.Packed.{packed-all}
 use Rattle.packing.proofs.pack.Statement.{statement}
 use Rattle.packing.proofs.pack.Tie as tie
 
