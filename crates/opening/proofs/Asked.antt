@@ -1,12 +1,16 @@
 -- Each answer of asking a record, which is opened before or not. Assumes nothing.
 use mathlib.Core.Path.{_≡_, refl, sym, ap, _∙_}
 use mathlib.Core.List.{List}
-use Prim.Native.Nat.{ℕ, _+_, _-_, _*_, _/_, _≤_, _<_}
+use Prim.Native.Nat.{ℕ, _+_, _-_, _*_, _/_, _^_, _≤_, _<_}
 use native.Mathlib.Omega.{arith}
 use lib.IntN.{ℤ}
 use lib.ListN.{length, take, drop, length-drop}
 use lib.Seq.{take-all, drop-drop}
+use lib.Signed.{mag}
+use mir.Syntax.{w32}
+use mir.Val.{toZ, ofZ}
 use borrow.Author.Tests.{lt-leb, le-leb, lt-ltb, le-ltb}
+use Rattle.signed.proofs.Widths.{reads-back}
 use Rattle.words.specs.declared.Refusal.{Refusal}
 use Rattle.words.specs.declared.Refusal.the-variants.{BadPlace, CutShort}
 use Rattle.words.specs.declared.Opening.{Opening}
@@ -51,12 +55,12 @@ module _ (r : List ℕ) (places p : ℕ) where
           ap (λ (bs : List ℕ). signedFrom (take 3 (drop (3 * p) bs))) packed-tail
           ∙ ap (λ (bs : List ℕ). signedFrom (take 3 bs)) (drop-drop (3 * p) headerSize r)
 
-      pub coefficient-there : p < length packed / 3 → (z : ℤ) → z ≡ coefficientFrom packed p
-          → Asking.Coefficient z ≡ askingView r places p
+      pub coefficient-there : p < length packed / 3 → (z : ℤ) → z ≡ coefficientFrom packed p → mag z < 2 ^ 31
+          → Asking.Coefficient (toZ w32 (ofZ w32 z)) ≡ askingView r places p
       unfolding askingView inOrder
-      coefficient-there h z e =
+      coefficient-there h z e m =
           let reached : headerSize + 3 * p + 3 ≤ length r = omega (arith, packed-length) in
-          rw (lt-leb places p below, le-ltb (length r) (headerSize + 3 * p + 3) reached, e, spelled)
+          rw (lt-leb places p below, le-ltb (length r) (headerSize + 3 * p + 3) reached, reads-back z m, e, spelled)
 
 -- Opened, and then asked.
 module _ (r : List ℕ) (p : ℕ) where
@@ -75,9 +79,10 @@ module _ (r : List ℕ) (p : ℕ) where
           ap (λ (m : ℕ). askingView r m p) same ∙ sym (asking-opened r p opens)
       by (refuses why) opens h = cc
 
-  pub refused-asked : (why : Refusal) → Opening.Refused why ≡ opening r → Asking.Refused why ≡ asking r p
+  pub refused-asked : {x : Opening} (why : Refusal) → x ≡ Opening.Refused why → x ≡ opening r
+      → Asking.Refused why ≡ asking r p
   unfolding opening
-  refused-asked why e = by (inOrder (openingChecks r)) refl e
+  refused-asked why is e = by (inOrder (openingChecks r)) refl (sym is ∙ e)
     where
       by : (c : Check) → inOrder (openingChecks r) ≡ c → Opening.Refused why ≡ told c → Asking.Refused why ≡ asking r p
       by passes opens h = cc
