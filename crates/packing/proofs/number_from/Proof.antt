@@ -1,6 +1,5 @@
 -- `number_from` keeps the number that the bytes read so far spell. Assumes nothing.
 use Prim.Native.Nat.{_-_}
-use native.Mathlib.Omega.{arith}
 use lib.ListN.{length}
 use borrow.Author.Needs.{needs}
 use Rattle.packing.proofs.Spelled.{Read, read-none, read-more, shifted-fits, more-fits, read-all}
@@ -20,6 +19,5 @@ pub number-from-spec : {M : Type 1} → statement M
 number-from-spec =
     tie.close
     (tie.spec Inv-loop μ-loop (λ c. search read-none) (λ c. search shifted-fits) (λ c. search needs)
-    (λ c κs. search needs) (λ c. search more-fits)
-    (λ c. omega (arith, c .before .before .loop-test .taken, c .before .before .before .before .before .pre))
-    (λ c. omega (arith, c .before .before .loop-test .taken)) (λ c. search read-more) returns)
+    (λ c κs. search needs) (λ c. search more-fits) (λ c. search needs) (λ c. search needs) (λ c. search read-more)
+    returns)

@@ -1,5 +1,4 @@
 -- `put_number` writes the low byte of what is left of the number before those that are written. Assumes nothing.
-use native.Mathlib.Omega.{arith}
 use borrow.Author.Needs.{needs}
 use Rattle.packing.proofs.Spelled.{Put, put-none, put-length, put-more, put-place, put-all}
 use Rattle.packing.proofs.put_number.Statement.{statement}
@@ -15,4 +14,4 @@ pub put-number-spec : {M : Type 1} → statement M
 put-number-spec =
     tie.close
     (tie.spec Inv-loop μ-loop (λ c. search put-none) (λ c. search needs) (λ c. search needs) (λ c. search put-place)
-    (λ c. omega (arith, c .loop-test .taken)) (λ c. search put-more) (λ c. search put-length) (λ c. search put-all))
+    (λ c. search needs) (λ c. search put-more) (λ c. search put-length) (λ c. search put-all))
