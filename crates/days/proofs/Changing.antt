@@ -1,8 +1,7 @@
 -- The checks of the day change, in the parts in which the code makes them, and each of its answers. Assumes nothing.
 use Rattle.kit.proofs.{_≡_, refl, sym, _∙_, List, [], _∷_, ℕ, _*_, _≤_, _<_, ℤ, le-leb, lt-leb}
-use Rattle.words.specs.{dayHours}
+use Rattle.words.specs.{dayHours, declared.Refusal.the-variants.BadWindow}
 use Rattle.words.specs.declared.{Answer.Answer, Column.Column, DayChange.DayChange, Finished.Finished, Refusal.Refusal}
-use Rattle.words.specs.declared.{Refusal.the-variants.BadWindow}
 use Rattle.om3.specs.Document.{levels, Table, lent, Check, passes, refuses, andThen, inOrder, answerBy, checkHours}
 use Rattle.om3.specs.Document.{checkRoom, tableShort, checkDay, examineColumn, answer, finishedNodes, day, changeOf}
 use Rattle.om3.specs.Document.{dayChange}

@@ -1,14 +1,17 @@
 -- What the examination below a node promises, at a pair and at a node of two halves, for each of its answers. Assumes
 -- nothing.
 use Rattle.kit.proofs.{_≡_, refl, sym, ap, _∙_, Bool, true, false, _&&_, List, map, map-append, ℕ, suc, _+_, _-_, _*_}
-use Rattle.kit.proofs.{_/_, _^_, _≤_, _<_, arith, ℤ, pos, getD}
-use Rattle.words.specs.{declared.NodeId.NodeId, declared.Range.Range, Readings}
+use Rattle.kit.proofs.{_/_, _^_, _≤_, _<_, arith, ℤ, pos, getD, mag}
+use Rattle.signed.proofs.{reads-back}
+use Rattle.words.specs.declared.{NodeId.NodeId, Range.Range}
+use Rattle.words.specs.{Readings}
 use Rattle.om3.specs.Document.{hour, Node, number, left, right, start, Table, lent, leftHalf, rightHalf, firstOfPair}
 use Rattle.om3.specs.Document.{secondOfPair, reached, Check, andThen, inOrder, soundDetails, soundCode, gapFrom}
 use Rattle.om3.specs.Document.{soundNode, nodesBelow, examineNode, examineNodes}
 use Rattle.node.specs.{Located.Located, Steps.halvesOf, Steps.pairOf}
 use Rattle.om3.proofs.Nodes.{pair-yes, pair-no, pair-half, start-hour}
 use Rattle.node.proofs.Located.{above-hours, above-pairs, at-pair, pair-width, left-located, right-located}
+use Rattle.node.proofs.Told.{back}
 use Rattle.om3.proofs.{Reached.reached-left, Reached.reached-right, SoundDetails.details, Examined.in-order-append}
 use Rattle.om3.proofs.{Examined.then-passes}
 use Rattle.node.specs.declared.Halves.{Halves}
@@ -32,6 +35,22 @@ module _ (r : Range) (cs : List ℤ) (i : ℕ) (p : Readings r) {a b : Range}
   pub right-readings : Readings b
   right-readings = halves-readings r (getD cs (2 * i) (pos 0)) (getD cs (2 * i + 1) (pos 0)) p h .1
 
+-- The step down from node i, for details that were read back from their bits.
+pub details-told : (r : Range) (cs : List ℤ) (i : ℕ) {x : Halves}
+    → (let d = getD cs (2 * i) (pos 0) in let e = getD cs (2 * i + 1) (pos 0) in
+    x ≡ halvesOf r (back d) (back e) → mag d < 2 ^ 31 → mag e < 2 ^ 31 → x ≡ halvesOf r d e)
+details-told r cs i s dm em =
+    rw (reads-back (getD cs (2 * i) (pos 0)) dm, reads-back (getD cs (2 * i + 1) (pos 0)) em) at s
+
+-- What a step down answered: its halves are ranges of readings.
+module _ {x : Halves} (r : Range) (d e : ℤ) {a b : Range} (is : x ≡ Halves.Sound a b) (s : x ≡ halvesOf r d e)
+    (p : Readings r) where
+  pub left-told : Readings a
+  left-told = halves-readings r d e p (sym s ∙ is) .0
+
+  pub right-told : Readings b
+  right-told = halves-readings r d e p (sym s ∙ is) .1
+
 same-number : {l : ℕ} {v : Node} {f w : ℕ} (i : NodeId) → Located l v (i .0) f w → number v ≡ i
 same-number i at = ap (λ (k : ℕ). record { 0 = k }) (at .numbered)
 
@@ -51,24 +70,33 @@ module _ (n : ℕ) (ks : List ℕ) (f : ℕ) (range : Range) where
   abbrev code : ℕ
   code = getD ks (f / 2) 0
 
-  pub code-unsound : pairOf range code ≡ Halves.Unsound → Halves.Unsound ≡ pairAt n ks f range
-  code-unsound h = rw (not-stepped (soundCode range code) (firstOfPair range code) (secondOfPair range code) h)
+  abbrev pairIsSound : Bool
+  pairIsSound =
+      soundCode range code && gapFrom n (hour f) (firstOfPair range code)
+      && gapFrom n (hour (f + 1)) (secondOfPair range code)
 
-  module _ (a b : Range) (h : pairOf range code ≡ Halves.Sound a b) where
-    abbrev coded : Stepped (soundCode range code) (firstOfPair range code) (secondOfPair range code) a b
-    coded = stepped (soundCode range code) (firstOfPair range code) (secondOfPair range code) h
+  module _ {x : Halves} where
+    pub code-unsound : x ≡ Halves.Unsound → x ≡ pairOf range code → Halves.Unsound ≡ pairAt n ks f range
+    code-unsound is s =
+        rw (not-stepped (soundCode range code) (firstOfPair range code) (secondOfPair range code) (sym s ∙ is))
 
-    pub first-late : gapFrom n (hour f) a ≡ false → Halves.Unsound ≡ pairAt n ks f range
-    first-late x = rw (coded .isSound, rw (coded .first) at x)
+    module _ (a b : Range) (is : x ≡ Halves.Sound a b) (s : x ≡ pairOf range code) {p : Bool}
+        (first : p ≡ gapFrom n (hour f) a) where
+      abbrev coded : Stepped (soundCode range code) (firstOfPair range code) (secondOfPair range code) a b
+      coded = stepped (soundCode range code) (firstOfPair range code) (secondOfPair range code) (sym s ∙ is)
 
-    pub second-late : gapFrom n (hour f) a ≡ true → gapFrom n (hour (f + 1)) b ≡ false
-        → Halves.Unsound ≡ pairAt n ks f range
-    second-late x y = rw (coded .isSound, rw (coded .first) at x, rw (coded .second) at y)
+      pub first-late : p ≡ false → Halves.Unsound ≡ pairAt n ks f range
+      first-late late = rw (coded .isSound, rw (coded .first) at (sym first ∙ late))
 
-    pub both-out : gapFrom n (hour f) a ≡ true → gapFrom n (hour (f + 1)) b ≡ true
-        → Halves.Sound a b ≡ pairAt n ks f range
-    both-out x y =
-        rw (coded .isSound, rw (coded .first) at x, rw (coded .second) at y, coded .first, coded .second)
+      module _ {q : Bool} (yes : p ≡ true) (second : q ≡ gapFrom n (hour (f + 1)) b) where
+        pub second-late : q ≡ false → Halves.Unsound ≡ pairAt n ks f range
+        second-late late =
+            rw (coded .isSound, rw (coded .first) at (sym first ∙ yes), rw (coded .second) at (sym second ∙ late))
+
+        pub both-out : q ≡ true → Halves.Sound a b ≡ pairAt n ks f range
+        both-out out =
+            rw (coded .isSound, rw (coded .first) at (sym first ∙ yes), rw (coded .second) at (sym second ∙ out))
+            (rw (coded .first, coded .second))
 
 module _ (n : ℕ) (cs : List ℤ) (ks : List ℕ) (i : NodeId) (f w : ℕ) (range : Range) where
   abbrev T : Table
@@ -76,37 +104,26 @@ module _ (n : ℕ) (cs : List ℤ) (ks : List ℕ) (i : NodeId) (f w : ℕ) (ran
 
   -- At a pair.
   module _ (two : 2 ≤ w) (four : w < 4) where
-    abbrev c : ℕ
-    c = getD ks (f / 2) 0
-
-    abbrev pairIsSound : Bool
-    pairIsSound =
-        soundCode range c && gapFrom n (hour f) (firstOfPair range c) && gapFrom n (hour (f + 1)) (secondOfPair range c)
+    abbrev isSound : Bool
+    isSound = pairIsSound n ks f range
 
     module _ (l : ℕ) (v : Node) (at : Located l v (i .0) f w) (e : range ≡ reached l T v) where
-      pub sound-pair : soundNode l n T v ≡ pairIsSound
+      pub sound-pair : soundNode l n T v ≡ isSound
       unfolding soundNode
       sound-pair =
           let first : start l (left v) ≡ f = left-located at two .begins in
           let second : start l (right v) ≡ f + 1 = omega (arith, right-located at two .begins) in
           rw (pair-yes l v (at-pair at two four), first, second, code-index at two four, ← e)
 
-      pair-alone : examineNodes l n T (nodesBelow (l - v .level) v) ≡ examineNode i pairIsSound
+      pair-alone : examineNodes l n T (nodesBelow (l - v .level) v) ≡ examineNode i isSound
       unfolding nodesBelow inOrder
-      pair-alone = rw (one-level at two four, sound-pair, same-number i at) (then-passes (examineNode i pairIsSound))
+      pair-alone = rw (one-level at two four, sound-pair, same-number i at) (then-passes (examineNode i isSound))
 
-    pair-examined : (r : Verdict) → checkOf r ≡ examineNode i pairIsSound → Examined n cs ks i f w range r
+    pair-examined : (r : Verdict) → checkOf r ≡ examineNode i isSound → Examined n cs ks i f w range r
     pair-examined r e = record { below = λ l v at g. e ∙ sym (pair-alone l v at g) }
 
-    pub pair-unsound : pairAt n ks f range ≡ Halves.Unsound → Examined n cs ks i f w range (Verdict.Unsound i)
-    pair-unsound h =
-        pair-examined (Verdict.Unsound i)
-        (rw (not-stepped pairIsSound (firstOfPair range c) (secondOfPair range c) h))
-
-    pub pair-sound : (a b : Range) → pairAt n ks f range ≡ Halves.Sound a b → Examined n cs ks i f w range Verdict.Sound
-    pair-sound a b h =
-        pair-examined Verdict.Sound
-        (rw (stepped pairIsSound (firstOfPair range c) (secondOfPair range c) h .isSound))
+    pub as-pair : (r : Verdict) → PairExamined n ks i f range r → Examined n cs ks i f w range r
+    as-pair r E = E .pair cs w two four
 
   -- At a node of two halves.
   module _ (wide : 4 ≤ w) where
@@ -139,15 +156,16 @@ module _ (n : ℕ) (cs : List ℤ) (ks : List ℕ) (i : NodeId) (f w : ℕ) (ran
           (ap inOrder (map-append (λ u. examineNode (number u) (soundNode l n T u)) L R)
           ∙ in-order-append (map (λ u. examineNode (number u) (soundNode l n T u)) L) _))
 
-    pub details-unsound : halvesOf range d e ≡ Halves.Unsound → Examined n cs ks i f w range (Verdict.Unsound i)
-    details-unsound h =
-        let s = not-stepped (soundDetails range d e) (leftHalf range d e) (rightHalf range d e) h in
-        record { below = λ l v at g. sym (node-then l v at g ∙ rw s) }
+    pub details-unsound : {x : Halves} → x ≡ Halves.Unsound → x ≡ halvesOf range d e
+        → Examined n cs ks i f w range (Verdict.Unsound i)
+    details-unsound is s =
+        let u = not-stepped (soundDetails range d e) (leftHalf range d e) (rightHalf range d e) (sym s ∙ is) in
+        record { below = λ l v at g. sym (node-then l v at g ∙ rw u) }
 
-    module _ (a b : Range) (h : halvesOf range d e ≡ Halves.Sound a b) (r : Verdict)
+    module _ {x : Halves} (a b : Range) (is : x ≡ Halves.Sound a b) (s : x ≡ halvesOf range d e) (r : Verdict)
         (L : Examined n cs ks (record { 0 = 2 * i .0 }) f (w / 2) a r) where
       abbrev H : Stepped (soundDetails range d e) (leftHalf range d e) (rightHalf range d e) a b
-      H = stepped (soundDetails range d e) (leftHalf range d e) (rightHalf range d e) h
+      H = stepped (soundDetails range d e) (leftHalf range d e) (rightHalf range d e) (sym s ∙ is)
 
       module _ (l : ℕ) (v : Node) (at : Located l v (i .0) f w) (g : range ≡ reached l T v) where
         left-reached : a ≡ reached l T (left v)
@@ -175,7 +193,7 @@ module _ (n : ℕ) (cs : List ℤ) (ks : List ℕ) (i : NodeId) (f w : ℕ) (ran
           }
 
     -- The halves are pairs.
-    module _ (eight : w < 8) (a b : Range) (h : halvesOf range d e ≡ Halves.Sound a b) where
+    module _ {x : Halves} (a b : Range) (is : x ≡ Halves.Sound a b) (s : x ≡ halvesOf range d e) (eight : w < 8) where
       abbrev leftPair : NodeId
       leftPair = record { 0 = 2 * i .0 }
 
@@ -198,8 +216,26 @@ module _ (n : ℕ) (cs : List ℤ) (ks : List ℕ) (i : NodeId) (f w : ℕ) (ran
           by : (r : Verdict) → Examined n cs ks leftPair f (w / 2) a r
               → ((k : NodeId) → r ≡ Verdict.Unsound k → q ≡ Verdict.Unsound k)
               → (r ≡ Verdict.Sound → PairExamined n ks rightPair (f + 2) b q) → Examined n cs ks i f w range q
-          by Verdict.Sound L kept further = then-right a b h Verdict.Sound L refl q (right-pair q (further refl))
-          by (Verdict.Unsound k) L kept further = rw (kept k refl) (left-unsound a b h (Verdict.Unsound k) L k refl)
+          by Verdict.Sound L kept further = then-right a b is s Verdict.Sound L refl q (right-pair q (further refl))
+          by (Verdict.Unsound k) L kept further = rw (kept k refl) (left-unsound a b is s (Verdict.Unsound k) L k refl)
+
+-- The two answers of a pair.
+module _ (n : ℕ) (ks : List ℕ) (i : NodeId) (f : ℕ) (range : Range) {x : Halves} (s : x ≡ pairAt n ks f range) where
+  abbrev first : Range
+  first = firstOfPair range (getD ks (f / 2) 0)
+
+  abbrev second : Range
+  second = secondOfPair range (getD ks (f / 2) 0)
+
+  pub pair-unsound : x ≡ Halves.Unsound → PairExamined n ks i f range (Verdict.Unsound i)
+  pair-unsound is =
+      let u = not-stepped (pairIsSound n ks f range) first second (sym s ∙ is) in
+      record { pair = λ cs w two four. pair-examined n cs ks i f w range two four (Verdict.Unsound i) (rw u) }
+
+  pub pair-sound : (a b : Range) → x ≡ Halves.Sound a b → PairExamined n ks i f range Verdict.Sound
+  pair-sound a b is =
+      let u = stepped (pairIsSound n ks f range) first second (sym s ∙ is) .isSound in
+      record { pair = λ cs w two four. pair-examined n cs ks i f w range two four Verdict.Sound (rw u) }
 
 -- The two answers of two neighbouring pairs.
 module _ (n : ℕ) (ks : List ℕ) (i : NodeId) (f : ℕ) (one two : Range) (r : Verdict)

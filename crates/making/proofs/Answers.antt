@@ -1,27 +1,48 @@
 -- What `make` promises at each of its answers: the checks in their order, and the whole table. Assumes nothing.
-use Rattle.kit.proofs.{_≡_, _∙_, true, false, _||_, List, ℕ, _≤_, _<_, ℤ, length, set, lt-ltb, le-ltb}
+use Rattle.kit.proofs.{_≡_, _∙_, true, false, _||_, List, ℕ, _+_, _*_, _/_, _^_, _≤_, _<_, arith, ℤ, length, set, mag}
+use Rattle.kit.proofs.{lt-ltb, le-ltb}
 use Rattle.words.specs.{lowOf, highOf}
 use Rattle.words.specs.declared.{Range.Range, Refusal.Refusal, Refusal.the-variants.BadHours}
 use Rattle.words.specs.declared.{Refusal.the-variants.ShortBuffer, Taking.Taking}
 use Rattle.om3.specs.Document.{badHours, levels, P, root, Table, lent, refuses, inOrder, answerBy, short, tableShort}
 use Rattle.om3.specs.Document.{checkReadings, makingChecks}
 use Rattle.sizes.specs.Lent.{TableLent}
-use Rattle.om3.proofs.{Levels.levels-some}
+use Rattle.signed.proofs.{reads-back}
+use Rattle.om3.proofs.Levels.{levels-some, 2≤P, P-even}
 use Rattle.om3.proofs.Taken.{taken-passes, refused-refuses, making-decided}
-use Rattle.node.proofs.Located.{root-located}
+use Rattle.node.proofs.{Located.root-located, Told.back}
 use Rattle.making.specs.Making.{Filled, Tabled, Made}
 use Rattle.making.proofs.{Details.coefficients-made, Codes.codes-made}
 
--- The recursion over node 1, with its low and high written, leaves the table.
+-- Node 1 has room below it, and so have its low and high.
+module _ (n p : ℕ) (cs : List ℤ) (ks : List ℕ) (room : TableLent n cs ks) (e : p ≡ P n) where
+  pub root-two : 2 ≤ p
+  root-two = omega (arith, 2≤P n)
+
+  pub root-room : (1 + 1) * (p / 2) ≤ length cs
+  root-room = omega (arith, room .coefficients, P-even n)
+
+  pub root-hours : 0 + p ≤ 2 * length ks
+  root-hours = omega (arith, room .codes, P-even n)
+
+  pub low-place : {size : ℕ} → size ≡ length cs → 0 < size
+  low-place kept = omega (arith, room .coefficients, 2≤P n)
+
+  pub high-place : {size : ℕ} → size ≡ length cs → 1 < size
+  high-place kept = omega (arith, room .coefficients, 2≤P n)
+
+-- The recursion over node 1, with its low x and its high y written, leaves the table.
 module _ (n : ℕ) (s : List ℤ) (p : ℕ) (cs cs₁ : List ℤ) (ks ks₁ : List ℕ) (r : Range) where
-  pub whole-table : TableLent n cs ks → p ≡ P n → Filled n s 1 0 p cs cs₁ ks ks₁ r
-      → (x y : ℤ) → x ≡ lowOf r → y ≡ highOf r → Tabled n s cs ks (set (set cs₁ 0 x) 1 y) ks₁
-  whole-table room e done x y ex ey =
+  pub whole-table : Filled n s 1 0 p cs cs₁ ks ks₁ r → TableLent n cs ks → p ≡ P n → {x y : ℤ} → x ≡ lowOf r
+      → y ≡ highOf r → mag x < 2 ^ 31 → mag y < 2 ^ 31
+      → Tabled n s cs ks (set (set cs₁ 0 (back x)) 1 (back y)) ks₁
+  whole-table done room e {x} {y} ex ey xm ym =
       let l = levels n in
       let at = done .below l root (rw e (root-located l)) in
       record {
         coefficients =
-            rw (ex, ey, at .range, at .coefficients) (coefficients-made l n s (levels-some n) cs (room .coefficients));
+            rw (reads-back x xm, reads-back y ym, ex, ey, at .range, at .coefficients)
+            (coefficients-made l n s (levels-some n) cs (room .coefficients));
         codes = at .codes ∙ codes-made l n s (levels-some n) ks (room .codes);
       }
 

@@ -1,6 +1,7 @@
 -- Each answer of asking a record, which is opened before or not. Assumes nothing.
-use Rattle.kit.proofs.{_≡_, refl, sym, ap, _∙_, List, ℕ, _+_, _-_, _*_, _/_, _≤_, _<_, arith, ℤ, length, take, drop}
-use Rattle.kit.proofs.{length-drop, take-all, drop-drop, lt-leb, le-leb, lt-ltb, le-ltb}
+use Rattle.kit.proofs.{_≡_, refl, sym, ap, _∙_, List, ℕ, _+_, _-_, _*_, _/_, _^_, _≤_, _<_, arith, ℤ, length, take}
+use Rattle.kit.proofs.{drop, length-drop, take-all, drop-drop, mag, w32, toZ, ofZ, lt-leb, le-leb, lt-ltb, le-ltb}
+use Rattle.signed.proofs.{reads-back}
 use Rattle.words.specs.declared.{Refusal.Refusal, Refusal.the-variants.BadPlace, Refusal.the-variants.CutShort}
 use Rattle.words.specs.declared.{Opening.Opening, Asking.Asking}
 use Rattle.om3.specs.Document.{P, Check, passes, refuses, inOrder, answerBy, signedFrom, headerSize, hoursIn}
@@ -40,12 +41,12 @@ module _ (r : List ℕ) (places p : ℕ) where
           ap (λ (bs : List ℕ). signedFrom (take 3 (drop (3 * p) bs))) packed-tail
           ∙ ap (λ (bs : List ℕ). signedFrom (take 3 bs)) (drop-drop (3 * p) headerSize r)
 
-      pub coefficient-there : p < length packed / 3 → (z : ℤ) → z ≡ coefficientFrom packed p
-          → Asking.Coefficient z ≡ askingView r places p
+      pub coefficient-there : p < length packed / 3 → (z : ℤ) → z ≡ coefficientFrom packed p → mag z < 2 ^ 31
+          → Asking.Coefficient (toZ w32 (ofZ w32 z)) ≡ askingView r places p
       unfolding askingView inOrder
-      coefficient-there h z e =
+      coefficient-there h z e m =
           let reached : headerSize + 3 * p + 3 ≤ length r = omega (arith, packed-length) in
-          rw (lt-leb places p below, le-ltb (length r) (headerSize + 3 * p + 3) reached, e, spelled)
+          rw (lt-leb places p below, le-ltb (length r) (headerSize + 3 * p + 3) reached, reads-back z m, e, spelled)
 
 -- Opened, and then asked.
 module _ (r : List ℕ) (p : ℕ) where
@@ -64,9 +65,10 @@ module _ (r : List ℕ) (p : ℕ) where
           ap (λ (m : ℕ). askingView r m p) same ∙ sym (asking-opened r p opens)
       by (refuses why) opens h = cc
 
-  pub refused-asked : (why : Refusal) → Opening.Refused why ≡ opening r → Asking.Refused why ≡ asking r p
+  pub refused-asked : {x : Opening} (why : Refusal) → x ≡ Opening.Refused why → x ≡ opening r
+      → Asking.Refused why ≡ asking r p
   unfolding opening
-  refused-asked why e = by (inOrder (openingChecks r)) refl e
+  refused-asked why is e = by (inOrder (openingChecks r)) refl (sym is ∙ e)
     where
       by : (c : Check) → inOrder (openingChecks r) ≡ c → Opening.Refused why ≡ told c → Asking.Refused why ≡ asking r p
       by passes opens h = cc

@@ -1,8 +1,8 @@
 -- Numbers spelled byte by byte: one byte more at the low end, read or written. Assumes nothing.
 use Rattle.kit.proofs.{_≡_, refl, sym, ap, _∙_, List, [], _∷_, _++_, append-nil, ℕ, suc, _+_, _-_, _*_, _/_, _%_, _^_}
 use Rattle.kit.proofs.{_≤_, _<_, pow-suc, div-div-eq-div-mul, mul-assoc, add-mul, sub-zero, pow-le-pow-right, div-one}
-use Rattle.kit.proofs.{le-refl, arith, lit<, length, getD, take, set, length-append, take-all, take-length, take-suc}
-use Rattle.kit.proofs.{set-at, length-take-le, append-snoc}
+use Rattle.kit.proofs.{le-refl, arith, lit<, length, getD, take, set, length-append, w64, Fits, take-all, take-length}
+use Rattle.kit.proofs.{take-suc, set-at, length-take-le, append-snoc}
 use Rattle.om3.proofs.Bytes.{bytes-length}
 use Rattle.om3.specs.Document.{bytesOf, numberFrom}
 
@@ -38,10 +38,17 @@ module _ (bs : List ℕ) where
       }
 
   -- Fewer than four bytes leave room for one more in any number of 32 bits.
-  pub read-small : (k x : ℕ) → Read bs k x → k < length bs → length bs ≤ 4 → x < 256 ^ 3
-  read-small k x r h four =
-      let few : k ≤ 3 = omega arith in
-      omega (arith, r .small, pow-le-pow-right {n = 256} (lit< tt) few)
+  module _ (k x : ℕ) (r : Read bs k x) (h : k < length bs) (four : length bs ≤ 4) where
+    small : x < 256 ^ 3
+    small =
+        let few : k ≤ 3 = omega arith in
+        omega (arith, r .small, pow-le-pow-right {n = 256} (lit< tt) few)
+
+    pub shifted-fits : Fits w64 (x * 256)
+    shifted-fits = omega (arith, small)
+
+    pub more-fits : (b : ℕ) → b < 256 → Fits w64 (x * 256 + b)
+    more-fits b f = omega (arith, small)
 
   pub read-all : (k x : ℕ) → Read bs k x → length bs ≤ k → (x ≡ numberFrom bs) × (x < 256 ^ length bs)
   read-all k x r h =
@@ -100,6 +107,9 @@ module _ (x : ℕ) (old : List ℕ) where
             rw (wider, p .above)
             (div-div-eq-div-mul x (256 ^ w) 256 ∙ ap (λ (m : ℕ). x / m) (sym (pow-suc 256 w)));
       }
+
+  pub put-place : (out : List ℕ) (rest k : ℕ) → Put x old out rest k → 0 < k → k - 1 < length out
+  put-place out rest k p h = omega (arith, put-length out rest k p, p .within)
 
   pub put-all : (out : List ℕ) (rest k : ℕ) → Put x old out rest k → k ≤ 0 → out ≡ bytesOf (length old) x
   put-all out rest k p h =

@@ -1,7 +1,8 @@
 -- Why printing meets its contracts.
-pub mod Digits
 pub mod Putting
+pub mod Digits
 pub mod Numbers
+pub mod Lines
 pub mod Drawing
 pub mod Choosing
 pub mod Held

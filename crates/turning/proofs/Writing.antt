@@ -38,15 +38,8 @@ module _ (cs : List ℤ) (ks : List ℕ) (i f w : ℕ) (range : Range) (out : Li
           rw (one-level at two four, reached-left l T v, reached-right l T v, p, code-index at two four)
           (rw (← g, first-index at two four))
 
-    pub pair-not-written : pairOf range c ≡ Halves.Unsound → Written cs ks i f w range out out
-    pair-not-written h =
-        record { below = λ l n v at g ok. clash (sym (not-stepped _ _ _ h) ∙ code-sound l n v at g ok) }
-
-    pub pair-written : (a b : Range) → pairOf range c ≡ Halves.Sound a b
-        → Written cs ks i f w range out (set (set out f (lowOf a)) (f + 1) (lowOf b))
-    pair-written a b h =
-        let s = stepped (soundCode range c) (firstOfPair range c) (secondOfPair range c) h in
-        record { below = λ l n v at g ok. rw (s .first, s .second) (pair-hours l n v at g) }
+    pub as-pair : (out′ : List ℤ) → PairWritten ks f range out out′ → Written cs ks i f w range out out′
+    as-pair out′ W = W .pair cs i w two four
 
   -- At a node of two halves.
   module _ (wide : 4 ≤ w) where
@@ -80,15 +73,16 @@ module _ (cs : List ℤ) (ks : List ℕ) (i f w : ℕ) (range : Range) (out : Li
             below-right = and-right (every (soundNode l n T) L) _ q;
           }
 
-    pub node-not-written : halvesOf range d e ≡ Halves.Unsound → Written cs ks i f w range out out
-    node-not-written h =
-        record { below = λ l n v at g ok. clash (sym (not-stepped _ _ _ h) ∙ all-sound l n v at g ok .node) }
+    pub node-not-written : {x : Halves} → x ≡ Halves.Unsound → x ≡ halvesOf range d e
+        → Written cs ks i f w range out out
+    node-not-written is s =
+        record { below = λ l n v at g ok. clash (sym (not-stepped _ _ _ (sym s ∙ is)) ∙ all-sound l n v at g ok .node) }
 
-    module _ (a b : Range) (h : halvesOf range d e ≡ Halves.Sound a b) (out₁ out₂ : List ℤ)
+    module _ {x : Halves} (a b : Range) (is : x ≡ Halves.Sound a b) (s : x ≡ halvesOf range d e) (out₁ out₂ : List ℤ)
         (L : Written cs ks (2 * i) f (w / 2) a out out₁)
         (R : Written cs ks (2 * i + 1) (f + w / 2) (w / 2) b out₁ out₂) where
       abbrev H : Stepped (soundDetails range d e) (leftHalf range d e) (rightHalf range d e) a b
-      H = stepped (soundDetails range d e) (leftHalf range d e) (rightHalf range d e) h
+      H = stepped (soundDetails range d e) (leftHalf range d e) (rightHalf range d e) (sym s ∙ is)
 
       halves-written : (l n : ℕ) (v : Node) → Located l v i f w → range ≡ reached l T v
           → every (soundNode l n T) (nodesBelow (l - v .level) v) ≡ true → out₂ ≡ withHours l T (l - v .level) v out
@@ -107,8 +101,31 @@ module _ (cs : List ℤ) (ks : List ℕ) (i f w : ℕ) (range : Range) (out : Li
       node-written = record { below = halves-written }
 
     -- The halves are pairs.
-    pub pairs-written : w < 8 → (a b : Range) → halvesOf range d e ≡ Halves.Sound a b → (out₁ out₂ : List ℤ)
-        → PairWritten ks f a out out₁ → PairWritten ks (f + w / 2) b out₁ out₂ → Written cs ks i f w range out out₂
-    pairs-written eight a b h out₁ out₂ L R =
-        node-written a b h out₁ out₂ (L .pair cs (2 * i) (w / 2) (omega arith) (omega arith))
+    pub pairs-written : {x : Halves} (a b : Range) → x ≡ Halves.Sound a b → x ≡ halvesOf range d e
+        → (out₁ out₂ : List ℤ) → PairWritten ks f a out out₁ → PairWritten ks (f + w / 2) b out₁ out₂ → w < 8
+        → Written cs ks i f w range out out₂
+    pairs-written a b is s out₁ out₂ L R eight =
+        node-written a b is s out₁ out₂ (L .pair cs (2 * i) (w / 2) (omega arith) (omega arith))
         (R .pair cs (2 * i + 1) (w / 2) (omega arith) (omega arith))
+
+-- The two answers of a pair's step.
+module _ (ks : List ℕ) (f : ℕ) (range : Range) (out : List ℤ) {x : Halves}
+    (s : x ≡ pairOf range (getD ks (f / 2) 0)) where
+  pub pair-not-written : x ≡ Halves.Unsound → PairWritten ks f range out out
+  pair-not-written is =
+      let u = not-stepped _ _ _ (sym s ∙ is) in
+      record {
+        pair = λ cs i w two four.
+            record { below = λ l n v at g ok. clash (sym u ∙ code-sound cs ks i f w range out two four l n v at g ok) };
+      }
+
+  pub pair-written : (a b : Range) → x ≡ Halves.Sound a b → {out₁ out₂ : List ℤ} → out₁ ≡ set out f (lowOf a)
+      → out₂ ≡ set out₁ (f + 1) (lowOf b) → PairWritten ks f range out out₂
+  pair-written a b is p q =
+      let c = getD ks (f / 2) 0 in
+      let u = stepped (soundCode range c) (firstOfPair range c) (secondOfPair range c) (sym s ∙ is) in
+      rw (q, p, u .first, u .second)
+      (record {
+        pair = λ cs i w two four.
+            record { below = λ l n v at g ok. pair-hours cs ks i f w range out two four l n v at g };
+      })

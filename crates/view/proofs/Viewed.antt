@@ -1,5 +1,5 @@
 -- What the view of a record holds, and what it answers. Assumes nothing.
-use Rattle.kit.proofs.{_≡_, refl, List, ℕ, _+_, _*_, _≤_, _<_, arith, length, lt-leb, le-ltb}
+use Rattle.kit.proofs.{_≡_, refl, sym, _∙_, List, ℕ, _+_, _*_, _≤_, _<_, arith, length, lt-leb, le-ltb}
 use Rattle.words.specs.declared.{Refusal.Refusal, Refusal.the-variants.BadPlace, Opening.Opening, Asking.Asking}
 use Rattle.om3.specs.Document.{P, Check, passes, refuses, inOrder, answerBy, headerSize, hoursIn, coefficientIn}
 use Rattle.om3.specs.Document.{openingChecks, opening, askingView, asking}
@@ -16,17 +16,17 @@ module _ (r : List ℕ) where
   places-by c = answerBy (λ why. 0) c (P (hoursIn r))
 
   -- A record that opening takes has a view of as many places as opening says, other bytes have one of none.
-  pub opened-places : (n places : ℕ) → Opening.Record n places ≡ opening r → places ≡ viewPlaces r
+  pub opened-places : {x : Opening} (n places : ℕ) → x ≡ Opening.Record n places → x ≡ opening r → places ≡ viewPlaces r
   unfolding opening viewPlaces
-  opened-places n places e = by (inOrder (openingChecks r)) e
+  opened-places n places is e = by (inOrder (openingChecks r)) (sym is ∙ e)
     where
       by : (c : Check) → Opening.Record n places ≡ told c → places ≡ places-by c
       by passes h = cc
       by (refuses why) h = cc
 
-  pub refused-places : (why : Refusal) → Opening.Refused why ≡ opening r → 0 ≡ viewPlaces r
+  pub refused-places : {x : Opening} (why : Refusal) → x ≡ Opening.Refused why → x ≡ opening r → 0 ≡ viewPlaces r
   unfolding opening viewPlaces
-  refused-places why e = by (inOrder (openingChecks r)) e
+  refused-places why is e = by (inOrder (openingChecks r)) (sym is ∙ e)
     where
       by : (c : Check) → Opening.Refused why ≡ told c → 0 ≡ places-by c
       by passes h = cc
@@ -36,11 +36,15 @@ module _ (r : List ℕ) where
     -- The view of an opened record answers what the record answers, that of bytes that opening refuses 13.
     pub opened-view : (n places : ℕ) → Opening.Record n places ≡ opening r
         → askingView r (viewPlaces r) p ≡ asking r p
-    opened-view n places e = opened-asked r p n (viewPlaces r) (rw (← opened-places n places e) e)
+    opened-view n places e = opened-asked r p n (viewPlaces r) (rw (← opened-places n places refl e) e)
+
+    pub view-asked : {x : Opening} {y : Asking} (n places : ℕ) → x ≡ Opening.Record n places → x ≡ opening r
+        → y ≡ askingView r (viewPlaces r) p → y ≡ asking r p
+    view-asked n places is e a = a ∙ opened-view n places (sym is ∙ e)
 
     pub refused-view : (why : Refusal) → Opening.Refused why ≡ opening r
         → Asking.Refused BadPlace ≡ askingView r (viewPlaces r) p
-    refused-view why e = past-places r (viewPlaces r) p (omega (arith, refused-places why e))
+    refused-view why e = past-places r (viewPlaces r) p (omega (arith, refused-places why refl e))
 
     -- The bytes reach each place of their view ..
     reaches : p < viewPlaces r → headerSize + 3 * p + 3 ≤ length r

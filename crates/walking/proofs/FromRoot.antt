@@ -11,8 +11,8 @@ use Rattle.node.specs.Steps.{rootOf}
 use Rattle.examining.proofs.Answers.{Rooted, rooted, not-rooted}
 use Rattle.examining.proofs.AtRoot.{root-readings, root-reached}
 use Rattle.walking.specs.{Seen.seenOf, Seen.tableSeen, Visiting.VisitedFrom, Visiting.TableVisited}
+use Rattle.walking.specs.{declared.Reached.Reached, declared.Visited.Visited}
 use Rattle.walking.specs.Nodes.{LentTo, At, Below}
-use Rattle.walking.specs.declared.{Reached.Reached, Visited.Visited}
 use Rattle.walking.proofs.{SeenTogether.seen-same, Visiting.not-through}
 
 module _ (n : ℕ) (cs : List ℤ) (ks : List ℕ) (x : Column) (stop : ℕ) where

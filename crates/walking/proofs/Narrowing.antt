@@ -1,8 +1,7 @@
 -- The narrowing of a visit: a record of what holds wherever it has come to, and how it goes on from there. A visit from
 -- where it has come to is a visit from its start. Assumes nothing.
 use Rattle.kit.proofs.{_≡_, refl, true, false, not, List, ℕ, _+_, _≤_, _<_, arith, ℤ, ltb-true}
-use Rattle.words.specs.{largestHours, Readings}
-use Rattle.words.specs.declared.{Column.Column, Range.Range}
+use Rattle.words.specs.{largestHours, Readings, declared.Column.Column, declared.Range.Range}
 use Rattle.om3.proofs.Tests.{and-right}
 use Rattle.node.specs.declared.Halves.{Halves}
 use Rattle.walking.specs.Nodes.{Below, leftReached, rightReached, touchesOf, insideOf, openedOf}

@@ -2,9 +2,8 @@
 -- sound and the walk goes on with the half that it takes. Assumes nothing.
 use Rattle.kit.proofs.{_≡_, refl, sym, ap, _∙_, true, false, List, _∷_, ⊎-elim, ℕ, suc, _+_, _-_, _≤_, arith, ℤ}
 use Rattle.signed.proofs.{signed}
-use Rattle.words.specs.{lowOf, Readings}
+use Rattle.words.specs.{lowOf, Readings, declared.Range.the-variants.Held, declared.Reading.Reading}
 use Rattle.words.specs.declared.{Column.Column, NodeId.NodeId, Range.Range, Range.the-variants.Empty}
-use Rattle.words.specs.declared.{Range.the-variants.Held, Reading.Reading}
 use Rattle.om3.specs.Document.{Node, number, left, right, Table, lent, reached, inOrder, soundNode, walkNodes, walkEnd}
 use Rattle.om3.specs.Document.{readingAt}
 use Rattle.om3.proofs.{Tests.below-or-not, Nodes.width-half, Nodes.start-hour, Intervals.width-some}
@@ -13,8 +12,8 @@ use Rattle.node.specs.declared.Halves.{Halves}
 use Rattle.examining.proofs.Answers.{Stepped, stepped, not-stepped}
 use Rattle.walking.specs.Nodes.{At, Below, leftReached, rightReached}
 use Rattle.walking.specs.Visiting.{SteppedDown}
-use Rattle.walking.specs.Walking.{takesLeft, towards, Walks, Small, WalkedFrom}
 use Rattle.walking.specs.declared.{Reached.Reached, Towards.Towards, Walked.Walked}
+use Rattle.walking.specs.Walking.{takesLeft, towards, Walks, Small, WalkedFrom}
 use Rattle.walking.proofs.Touching.{left-at, right-at}
 use Rattle.walking.proofs.Lending.{some-hours, left-below, right-below}
 

@@ -2,8 +2,7 @@
 use Rattle.kit.proofs.{refl, arith, needs}
 use Rattle.signed.proofs.{reads-back}
 use Rattle.walking.proofs.Lending.{ends-within}
-use Rattle.walking.specs.Walking.{WalkedFrom}
-use Rattle.walking.specs.declared.{Walked.Walked, Towards.Towards}
+use Rattle.walking.specs.{Walking.WalkedFrom, declared.Walked.Walked, declared.Towards.Towards}
 use Rattle.columns.proofs.Founding as laws
 use Rattle.columns.proofs.found.Statement.{statement}
 use Rattle.columns.proofs.found.Tie as tie
