@@ -1,5 +1,6 @@
 -- Why the definitions are right, in reading order.
 pub mod Numbers
+pub mod Causes
 pub mod Tests
 pub mod Lists
 pub mod Levels

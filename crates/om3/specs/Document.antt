@@ -55,3 +55,4 @@ pub use Rattle.om3.specs.Looked.{readingOf, lookOver, Covers, LiesWithin
 unfoldable pub use Rattle.om3.specs.Looked.{readingsIn, least, greatest, lookThrough}
 pub use Rattle.om3.specs.Drawn.{Drawn, Ranged}
 pub use Rattle.om3.specs.Numbers.{Answered, numbers, unmarked, outside, further, printing}
+pub use Rattle.om3.specs.TwoCauses.{twoCauses}
