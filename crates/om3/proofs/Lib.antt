@@ -3,6 +3,7 @@ pub mod Numbers
 pub mod Causes
 pub mod Tests
 pub mod Lists
+pub mod Arithmetic
 pub mod Levels
 pub mod Nodes
 pub mod Ranges

@@ -34,7 +34,7 @@ unfoldable pub use Rattle.om3.specs.Record.{recordOf, tableIn}
 pub use Rattle.om3.specs.RecordCalls.{writingChecks, writing, checkLength, checkCut, checkAfter, openingChecks}
 pub use Rattle.om3.specs.RecordCalls.{Openable, unpackingChecks, unpacking, checkPlace, checkReach}
 unfoldable pub use Rattle.om3.specs.RecordCalls.{opening, askingView, asking}
-pub use Rattle.om3.specs.Columns.{edge, column, inColumn, columnHours, noHour, edgesChecks}
+pub use Rattle.om3.specs.Columns.{ceil, edge, column, inColumn, columnHours, noHour, edgesChecks}
 unfoldable pub use Rattle.om3.specs.Columns.{edges}
 pub use Rattle.om3.specs.Stopped.{hasReading, openedNodes, isOuter, isInner, inner, examineColumn}
 unfoldable pub use Rattle.om3.specs.Stopped.{shares, inside, rangeOver, opened, visited, countAt, outer}
