@@ -31,8 +31,9 @@ unfoldable pub use Rattle.om3.specs.Bytes.{bytesOf, numberFrom, signedOf
 pub use Rattle.om3.specs.Record.{lengthFor, recordLength, recordSize, headerOf, headerSize, HasRecord, lengthIn}
 pub use Rattle.om3.specs.Record.{versionIn, hoursIn, coefficientIn}
 unfoldable pub use Rattle.om3.specs.Record.{recordOf, tableIn}
-pub use Rattle.om3.specs.RecordCalls.{writingChecks, writing, checkLength, checkCut, checkAfter, openingChecks}
-pub use Rattle.om3.specs.RecordCalls.{Openable, unpackingChecks, unpacking, checkPlace, checkReach}
+pub use Rattle.om3.specs.RecordCalls.{writingChecks, writing, checkHeader, checkVersion, checkLength, checkCut}
+pub use Rattle.om3.specs.RecordCalls.{checkAfter, openingChecks, Openable, unpackingChecks, unpacking}
+pub use Rattle.om3.specs.RecordCalls.{checkPlace, checkReach}
 unfoldable pub use Rattle.om3.specs.RecordCalls.{opening, askingView, asking}
 pub use Rattle.om3.specs.Columns.{ceil, edge, column, inColumn, columnHours, noHour, edgesChecks}
 unfoldable pub use Rattle.om3.specs.Columns.{edges}
