@@ -57,3 +57,4 @@ pub mod ColumnChecks
 pub mod ColumnRanges
 pub mod Demand3
 pub mod PrintedColumns
+pub mod RefusalLines

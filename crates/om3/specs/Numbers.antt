@@ -2,8 +2,8 @@
 -- so is proved in proofs/Numbers. Assumes nothing.
 --
 --   Case, Answered    a question with its answer, `q is r`; each question of a list is answered so
---   g m, -g m         grams, and grams below zero
---   refusal, prints   a refusal's number and place as a reply; a text and what is printed for it
+--   g m               grams; refusal, a refusal's number and place as a reply
+--   text prints lines a text and what is printed for it
 --   seven             the printer's seven hours
 --   numbers c e       the numbers marked [P], 1 to 10; c and e are the codes that 9 and 10 leave open
 --   unmarked          numbers 11 and 12, and the sizes of the house record
@@ -41,7 +41,7 @@ _is_ question reply = record { question = question; reply = reply }
 abbrev pub g : ℕ → ℤ
 g m = pos m
 
-abbrev pub -g : ℕ → ℤ
+abbrev -g : ℕ → ℤ
 -g m = negℤ (pos m)
 
 -- A column as the printer prints it, with the hours of its first and its last reading.
@@ -218,7 +218,8 @@ printing =
     -- six digits in line 1 and eight in an hour are too many [printer 1, 2]
     ∷ ("000000 1 1\n5" prints "refused 12 at 1\n")
     ∷ ("0 1 1\n-00000005" prints "refused 12 at 2\n")
-    -- 2,000,003 is out of range; no column [printer 5, 6]
+    -- no hour; 2,000,003 is out of range; no column [printer 5, 6]
+    ∷ ("1 0 0" prints "refused 1 at 0\n")
     ∷ ("0 2 1\n5\n2000003" prints "refused 2 at 1\n")
     ∷ ("0 1 0\n5" prints "refused 6 at 0\n")
     ∷ []

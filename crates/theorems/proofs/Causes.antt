@@ -1,12 +1,12 @@
 -- Each call is refused by the first cause of its order: a refusal is told from any other answer, and one from another.
 -- Assumes nothing.
-use Rattle.kit.proofs.{_≡_, ap, map, length}
+use Rattle.kit.proofs.{_≡_, map, length}
 use Rattle.words.specs.declared.{Refusal.Refusal, Taking.Taking, Writing.Writing, Unpacking.Unpacking, Opening.Opening}
 use Rattle.words.specs.declared.{Asking.Asking, Edges.Edges, Stopped.Stopped, Answer.Answer, Finished.Finished}
 use Rattle.words.specs.declared.{DayChange.DayChange}
-use Rattle.om3.specs.Document.{levels, passes, refuses, answerBy, opening, askingView, asking, edges, stopped, answer}
-use Rattle.om3.specs.Document.{finished, day, changeOf, dayChange, refusalLine, drawnText, gramsOf}
-use Rattle.om3.proofs.Examined.{first-cause, refused-exactly}
+use Rattle.om3.specs.Document.{levels, passes, refuses, opening, askingView, asking, edges, stopped, answer}
+use Rattle.om3.specs.Document.{finished, day, changeOf, dayChange, refusalLine, gramsOf}
+use Rattle.om3.proofs.{Examined.refused-exactly, RefusalLines.line-one, RefusalLines.drawn-apart}
 use Rattle.theorems.specs.Causes.{EachCause}
 
 -- A change, or no reading, is not a refusal.
@@ -31,7 +31,7 @@ each-cause =
       day-change = λ n t d why.
           let apart = change-apart (answer (levels n) t (day n d)) in
           refused-exactly DayChange.Refused _ (λ y z e. cc) apart why _;
-      print = λ a b w lines why f.
-          let drawn = drawnText (length lines) (map gramsOf lines) a b w in
-          ap (λ c. answerBy refusalLine c drawn) (first-cause _ why .1 f);
+      print = λ a b w lines why.
+          let apart = drawn-apart (length lines) (map gramsOf lines) a b w in
+          refused-exactly refusalLine _ line-one apart why _;
     }

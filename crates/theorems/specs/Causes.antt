@@ -3,7 +3,7 @@
 -- it is, is in om3/specs: Refusals, RecordCalls and Printed. [refusals 17, 18, 19, 20] Assumes nothing.
 --
 --   EachCause   of each call: its answer is the refusal `why` exactly if `why` is the first cause of these checks; of
---               what is printed: for the first cause it is the line of that refusal
+--               what is printed: it is the line of that refusal
 use mathlib.Core.{Path._≡_, Bool._||_, Logic._↔_}
 use mathlib.Core.List.{List, [], _∷_}
 use Prim.Native.Nat.{ℕ}
@@ -115,13 +115,13 @@ pub record EachCause : Type 0 where
       ∷ checkDay n d
       ∷ examineColumn (levels n) t (day n d) n (finishedNodes (levels n) t (day n d))
       ∷ []) why
-  -- 12, 1, 2, 5, 6, where line 1 is good; else line 1
+  -- 12, 1, 2, 5, 6, with a good line 1 and the further lines as they are read
   pub print : (a b w : ℕ) (lines : List HourLine) (why : Refusal)
-      → FirstCause
+      → (printedOf (WindowLine.Window a b w) lines ≡ refusalLine why)
+      ↔ FirstCause
       (checkLines 2 lines
       ∷ checkHours (length lines)
       ∷ checkNumbers 0 lines
       ∷ checkWindow (length lines) a b
       ∷ checkColumn w 0
       ∷ []) why
-      → printedOf (WindowLine.Window a b w) lines ≡ refusalLine why
