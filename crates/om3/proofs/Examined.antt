@@ -3,8 +3,8 @@ use Rattle.kit.proofs.{_≡_, refl, sym, ap, _∙_, Bool, true, false, _&&_, Li
 use Rattle.signed.proofs.{clash}
 use Rattle.words.specs.declared.{Refusal.Refusal, NodeId.NodeId}
 use Rattle.om3.specs.Document.{every, Node, number, Table, coefficientAt, Check, passes, refuses, refuseIf}
-use Rattle.om3.specs.Document.{andThen, inOrder, FirstCause, soundRootValues, soundNode, tableNodes, soundTable}
-use Rattle.om3.specs.Document.{examineNode, examineNodes, examine}
+use Rattle.om3.specs.Document.{andThen, inOrder, answerBy, FirstCause, soundRootValues, soundNode, tableNodes}
+use Rattle.om3.specs.Document.{soundTable, examineNode, examineNodes, examine}
 
 -- A first and a second check pass only if both do; a check passes only if its cause is not there.
 pub then-first : (c d : Check) → andThen c d ≡ passes → c ≡ passes
@@ -64,6 +64,20 @@ first-cause cs why = (
   causes cs why,
   λ f. rw (f .among) (in-order-append (f .before) (refuses why ∷ f .after) ∙ rw (f .passed)),
 )
+
+-- A call answers a refusal exactly if its cause is the first of the call's checks, since it tells refusals apart from
+-- each other and from what it answers where they all pass. [refusals 17, 18, 19, 20]
+module _ {A : Type 0} (refused : Refusal → A) (taken : A) (one : (y z : Refusal) → refused y ≡ refused z → y ≡ z)
+    (apart : (z : Refusal) → taken ≡ refused z → passes ≡ refuses z) (why : Refusal) where
+  answered-by : (c : Check) → (answerBy refused c taken ≡ refused why) ↔ (c ≡ refuses why)
+  answered-by passes = (apart why, λ e. cc)
+  answered-by (refuses z) = (λ e. ap refuses (one z why e), λ e. cc)
+
+  pub refused-exactly : (cs : List Check) → (answerBy refused (inOrder cs) taken ≡ refused why) ↔ FirstCause cs why
+  refused-exactly cs =
+      let by = answered-by (inOrder cs) in
+      let first = first-cause cs why in
+      (λ e. first .0 (by .0 e), λ f. by .1 (first .1 f))
 
 -- One more node and those after it pass exactly if it is sound and those after it pass.
 node-passes : (i : NodeId) (b : Bool) (c : Check) (rest : Bool) → (c ≡ passes) ↔ (rest ≡ true)

@@ -1,7 +1,9 @@
 -- Why the definitions are right, in reading order.
 pub mod Numbers
+pub mod Causes
 pub mod Tests
 pub mod Lists
+pub mod Arithmetic
 pub mod Levels
 pub mod Nodes
 pub mod Ranges
@@ -55,3 +57,4 @@ pub mod ColumnChecks
 pub mod ColumnRanges
 pub mod Demand3
 pub mod PrintedColumns
+pub mod RefusalLines

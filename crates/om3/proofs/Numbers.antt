@@ -1,21 +1,21 @@
 -- The definitions answer as document 01 says, by computing them. Assumes nothing.
-use Rattle.kit.proofs.{refl, flatMap, ℕ}
+use Rattle.kit.proofs.{refl, flatMap, flatten, ℕ}
 use Rattle.om3.specs.Document.{upFrom, any, every, keep, firstFrom, lastOf, levels, hourOf, width, start, hours}
 use Rattle.om3.specs.Document.{levelOf, look, rangeOf, coefficient, pairCode, reachedAt, inOrder, soundNode}
 use Rattle.om3.specs.Document.{nodesBelow, examine, checkReadings, levelStretch, bytesOf, numberFrom, signedOf}
-use Rattle.om3.specs.Document.{recordOf, tableIn, opening, asking, edges, shares, inside, opened, visited}
-use Rattle.om3.specs.Document.{countAt, rangeOver, outer, innerNodes, stopped, walkNodes, walkEnd, insideNodes}
-use Rattle.om3.specs.Document.{finished, dayChange, split, windowLine, hourLine, withoutEnd, digitsOf, decimal}
-use Rattle.om3.specs.Document.{columnLines, checkLines, checkNumbers, printed, Answered, numbers, unmarked}
-use Rattle.om3.specs.Document.{outside, further, printing}
+use Rattle.om3.specs.Document.{recordOf, tableIn, opening, askingView, asking, edges, shares, inside, opened}
+use Rattle.om3.specs.Document.{visited, countAt, rangeOver, outer, innerNodes, stopped, walkNodes, walkEnd}
+use Rattle.om3.specs.Document.{insideNodes, finished, dayChange, split, windowLine, hourLine, withoutEnd}
+use Rattle.om3.specs.Document.{digitsOf, decimal, columnLines, checkLines, checkNumbers, printed, Answered}
+use Rattle.om3.specs.Document.{numbers, unmarked, outside, further, printing}
 
-unfoldable computing : Unit {0}
+-- What is computed, for these lists and for that of Causes.
+unfoldable pub computing : Unit {0}
 unfolding upFrom any every keep firstFrom levels hourOf width start hours levelOf look rangeOf coefficient pairCode
     reachedAt inOrder soundNode nodesBelow examine checkReadings edges shares inside opened visited countAt
     rangeOver outer innerNodes stopped walkNodes walkEnd lastOf insideNodes finished dayChange levelStretch bytesOf
-    numberFrom
-    signedOf recordOf tableIn opening asking split windowLine hourLine withoutEnd digitsOf decimal columnLines
-    checkLines checkNumbers printed flatMap
+    numberFrom signedOf recordOf tableIn opening askingView asking split windowLine hourLine withoutEnd digitsOf
+    decimal columnLines checkLines checkNumbers printed flatMap flatten
 computing = tt
 
 -- The numbers marked [P], 1 to 10.

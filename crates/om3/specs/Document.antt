@@ -31,10 +31,11 @@ unfoldable pub use Rattle.om3.specs.Bytes.{bytesOf, numberFrom, signedOf
 pub use Rattle.om3.specs.Record.{lengthFor, recordLength, recordSize, headerOf, headerSize, HasRecord, lengthIn}
 pub use Rattle.om3.specs.Record.{versionIn, hoursIn, coefficientIn}
 unfoldable pub use Rattle.om3.specs.Record.{recordOf, tableIn}
-pub use Rattle.om3.specs.RecordCalls.{writingChecks, writing, checkLength, checkCut, checkAfter, openingChecks}
-pub use Rattle.om3.specs.RecordCalls.{Openable, unpackingChecks, unpacking, checkPlace, checkReach}
+pub use Rattle.om3.specs.RecordCalls.{writingChecks, writing, checkHeader, checkVersion, checkLength, checkCut}
+pub use Rattle.om3.specs.RecordCalls.{checkAfter, openingChecks, Openable, unpackingChecks, unpacking}
+pub use Rattle.om3.specs.RecordCalls.{checkPlace, checkReach}
 unfoldable pub use Rattle.om3.specs.RecordCalls.{opening, askingView, asking}
-pub use Rattle.om3.specs.Columns.{edge, column, inColumn, columnHours, noHour, edgesChecks}
+pub use Rattle.om3.specs.Columns.{ceil, edge, column, inColumn, columnHours, noHour, edgesChecks}
 unfoldable pub use Rattle.om3.specs.Columns.{edges}
 pub use Rattle.om3.specs.Stopped.{hasReading, openedNodes, isOuter, isInner, inner, examineColumn}
 unfoldable pub use Rattle.om3.specs.Stopped.{shares, inside, rangeOver, opened, visited, countAt, outer}
@@ -55,3 +56,4 @@ pub use Rattle.om3.specs.Looked.{readingOf, lookOver, Covers, LiesWithin
 unfoldable pub use Rattle.om3.specs.Looked.{readingsIn, least, greatest, lookThrough}
 pub use Rattle.om3.specs.Drawn.{Drawn, Ranged}
 pub use Rattle.om3.specs.Numbers.{Answered, numbers, unmarked, outside, further, printing}
+pub use Rattle.om3.specs.TwoCauses.{twoCauses}

@@ -24,4 +24,5 @@ pub mod Looked
 pub mod Drawn
 pub mod Questions
 pub mod Numbers
+pub mod TwoCauses
 pub mod Document

@@ -1,11 +1,14 @@
 -- Document 01, "Numbers to hold to": questions with the answers that document 01 gives. That the definitions answer
 -- so is proved in proofs/Numbers. Assumes nothing.
 --
---   Case, Answered    a question with its answer; each question of a list is answered so
+--   Case, Answered    a question with its answer, `q is r`; each question of a list is answered so
+--   g m               grams; refusal, a refusal's number and place as a reply
+--   text prints lines a text and what is printed for it
 --   seven             the printer's seven hours
 --   numbers c e       the numbers marked [P], 1 to 10; c and e are the codes that 9 and 10 leave open
 --   unmarked          numbers 11 and 12, and the sizes of the house record
 --   outside           worked examples of documents 003 and 004
+--   eight             the coefficients of eight hours, fourteen the bytes of a record, and damaged one
 --   further           where document 01 leaves room or an error comes easily
 --   printing          texts and what is printed for them
 use mathlib.Core.Path.{_≡_}
@@ -31,11 +34,11 @@ abbrev pub Answered : List Case → Type 0
 Answered cs = map (λ (c : Case). replyTo (c .question)) cs ≡ map (λ (c : Case). c .reply) cs
 
 infix 20 _is_
-abbrev _is_ : Question → Reply → Case
+abbrev pub _is_ : Question → Reply → Case
 _is_ question reply = record { question = question; reply = reply }
 
 -- Grams, and grams below zero.
-abbrev g : ℕ → ℤ
+abbrev pub g : ℕ → ℤ
 g m = pos m
 
 abbrev -g : ℕ → ℤ
@@ -54,7 +57,7 @@ ranges outerLow outerHigh innerLow innerHigh count =
 abbrev outerAlone : (outerLow outerHigh count : ℕ) → Reply
 outerAlone outerLow outerHigh count = says (taken (g outerLow ∷ g outerHigh ∷ gap ∷ gap ∷ pos count ∷ []))
 
-abbrev refusal : (number place : ℕ) → Reply
+abbrev pub refusal : (number place : ℕ) → Reply
 refusal number place = says (record { number = number; place = place; values = [] })
 
 -- The hours from a up to, not including, b.
@@ -138,7 +141,7 @@ outside =
     ∷ []
 
 -- Hours that hold 1, 2, .., 8, as coefficients; their codes are 1, 1, 1, 1.
-abbrev eight : List ℤ
+abbrev pub eight : List ℤ
 eight = g 1 ∷ g 8 ∷ -g 4 ∷ -g 4 ∷ -g 2 ∷ -g 2 ∷ -g 2 ∷ -g 2 ∷ []
 
 -- One reading, at hour 12 of 16, as coefficients; its codes are 4, 4, 4, 4, 4, 4, 2, 4.
@@ -148,11 +151,11 @@ late =
     ∷ g 2000001 ∷ g 2000001 ∷ []
 
 -- One hour of −500 grams: 14 bytes.
-abbrev fourteen : List ℕ
+abbrev pub fourteen : List ℕ
 fourteen = 0 ∷ 0 ∷ 0 ∷ 10 ∷ 1 ∷ 0 ∷ 1 ∷ 255 ∷ 254 ∷ 12 ∷ 255 ∷ 254 ∷ 12 ∷ 2 ∷ []
 
 -- The same with the code of two readings, of which the second would be past the series.
-abbrev damaged : List ℕ
+abbrev pub damaged : List ℕ
 damaged = 0 ∷ 0 ∷ 0 ∷ 10 ∷ 1 ∷ 0 ∷ 1 ∷ 255 ∷ 254 ∷ 12 ∷ 255 ∷ 254 ∷ 12 ∷ 0 ∷ []
 
 -- Examples of our own, and of where document 01 leaves room.
@@ -168,8 +171,6 @@ further =
     -- one mark alone, and code 2 with low < high, are unsound [sound 3, 4]
     ∷ (turningFor 4 (g 5 ∷ g 5 ∷ g 2000001 ∷ g 0 ∷ []) (0 ∷ 4 ∷ []) is refusal 4 1)
     ∷ (turningFor 2 (g 5 ∷ g 6 ∷ []) (2 ∷ []) is refusal 4 1)
-    -- opened nodes are examined before the walk to the first reading: pair 7 before pair 4 [columns 16]
-    ∷ (finishedIn 8 eight (9 ∷ 1 ∷ 1 ∷ 9 ∷ []) 0 7 1 0 is refusal 4 7)
     -- pairs between the two walks are not examined [columns 18]
     ∷ (finishedIn 8 eight (1 ∷ 9 ∷ 9 ∷ 1 ∷ []) 0 8 1 0 is shown 0 7 1 8 1 8 7)
     -- a reading at hour 12 of a series of 9 hours is found at its pair [sound 4]
@@ -181,19 +182,10 @@ further =
     ∷ (recordFor 1 (-g 500 ∷ []) is bytes fourteen)
     ∷ (openFor fourteen is says (taken (pos 1 ∷ pos 2 ∷ [])))
     ∷ (openFor (fourteen ++ 0 ∷ []) is refusal 11 0)
-    -- a record is refused by the first cause in order [refusals 19]
-    ∷ (openFor (0 ∷ 0 ∷ 0 ∷ 10 ∷ 2 ∷ 0 ∷ []) is refusal 8 0)
-    ∷ (openFor (0 ∷ 0 ∷ 0 ∷ 11 ∷ 2 ∷ 0 ∷ 0 ∷ []) is refusal 9 0)
-    ∷ (openFor (0 ∷ 0 ∷ 0 ∷ 11 ∷ 1 ∷ 0 ∷ 0 ∷ []) is refusal 1 0)
-    ∷ (openFor (0 ∷ 0 ∷ 0 ∷ 11 ∷ 1 ∷ 0 ∷ 1 ∷ []) is refusal 10 0)
     ∷ (openFor (0 ∷ 0 ∷ 0 ∷ 10 ∷ 1 ∷ 0 ∷ 1 ∷ []) is refusal 8 0)
-    -- so is writing, and reading after the causes of opening [refusals 18, 19]
-    ∷ (writingFor 0 [] [] 0 is refusal 1 0)
-    ∷ (writingFor 2 (g 5 ∷ g 4 ∷ []) (0 ∷ []) 13 is refusal 3 0)
+    -- writing examines the table, reading the one that the record states [refusals 18, 19]
     ∷ (writingFor 2 (g 5 ∷ g 4 ∷ []) (0 ∷ []) 14 is refusal 4 0)
     ∷ (writingFor 2 (g 4 ∷ g 5 ∷ []) (0 ∷ []) 14 is says (taken (pos 14 ∷ [])))
-    ∷ (readingFor (fourteen ++ 0 ∷ []) 1 0 is refusal 11 0)
-    ∷ (readingFor damaged 1 1 is refusal 3 0)
     ∷ (readingFor damaged 2 1 is refusal 4 1)
     ∷ (readingFor fourteen 2 1 is says (taken (pos 1 ∷ [])))
     ∷ (askFor fourteen 1 is says (taken (-g 500 ∷ [])))
@@ -202,7 +194,7 @@ further =
 
 -- What is printed for a text.
 infix 20 _prints_
-abbrev _prints_ : String → String → Case
+abbrev pub _prints_ : String → String → Case
 _prints_ text lines = printFor (ascii text) is bytes (ascii lines)
 
 -- Document 01's example, exactly, and texts where it leaves room. [printer 9]
@@ -226,9 +218,8 @@ printing =
     -- six digits in line 1 and eight in an hour are too many [printer 1, 2]
     ∷ ("000000 1 1\n5" prints "refused 12 at 1\n")
     ∷ ("0 1 1\n-00000005" prints "refused 12 at 2\n")
-    -- then 1, 2, 5, 6 [printer 5, 6]
+    -- no hour; 2,000,003 is out of range; no column [printer 5, 6]
     ∷ ("1 0 0" prints "refused 1 at 0\n")
-    ∷ ("1 0 0\n5\n2000003" prints "refused 2 at 1\n")
-    ∷ ("1 0 0\n5" prints "refused 5 at 0\n")
+    ∷ ("0 2 1\n5\n2000003" prints "refused 2 at 1\n")
     ∷ ("0 1 0\n5" prints "refused 6 at 0\n")
     ∷ []

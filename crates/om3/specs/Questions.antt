@@ -1,4 +1,5 @@
--- Questions about document 01's definitions, and what these reply; asked by Numbers. Assumes nothing.
+-- Questions about document 01's definitions, and what these reply; asked by Numbers and TwoCauses. Assumes
+-- nothing.
 --
 --   Question, Reply   what is asked; what is replied
 --   tableFrom n s     the table of n hours that hold s
@@ -15,7 +16,7 @@ use Rattle.om3.specs.Table.{Table, lent, tableOf}
 use Rattle.om3.specs.Calls.{making, turningBack}
 use Rattle.om3.specs.Level.{levelStretch, placesOf}
 use Rattle.om3.specs.Record.{recordLength, recordSize, recordOf}
-use Rattle.om3.specs.RecordCalls.{writing, unpacking, opening, asking}
+use Rattle.om3.specs.RecordCalls.{writing, unpacking, opening, askingView, asking}
 use Rattle.om3.specs.Columns.{edges}
 use Rattle.om3.specs.Stopped.{stopped}
 use Rattle.om3.specs.Finished.{finished}
@@ -32,8 +33,10 @@ pub data Question : Type 0 where
   finishedFor : (n : ℕ) (s : List ℤ) (a b w k : ℕ) → Question
   stoppedFor : (n : ℕ) (s : List ℤ) (a b w k d : ℕ) → Question
   dayFor : (n : ℕ) (s : List ℤ) (d : ℕ) → Question
-  -- a finished column in any table
+  -- the same in any table
   finishedIn : (n : ℕ) (coefficients : List ℤ) (codes : List ℕ) (a b w k : ℕ) → Question
+  stoppedIn : (n : ℕ) (coefficients : List ℤ) (codes : List ℕ) (a b w k d : ℕ) → Question
+  dayIn : (n : ℕ) (coefficients : List ℤ) (codes : List ℕ) (d : ℕ) → Question
   -- the edges of a column
   edgesFor : (n a b w k : ℕ) → Question
   -- the details of level j of a table
@@ -46,9 +49,10 @@ pub data Question : Type 0 where
   -- codes lent
   writingFor : (n : ℕ) (coefficients : List ℤ) (codes : List ℕ) (size : ℕ) → Question
   readingFor : (bytes : List ℕ) (coefficients codes : ℕ) → Question
-  -- what opening bytes answers; asking them for a coefficient
+  -- what opening bytes answers; asking them for a coefficient; asking a view of bytes and of P = places
   openFor : (bytes : List ℕ) → Question
   askFor : (bytes : List ℕ) (p : ℕ) → Question
+  viewFor : (bytes : List ℕ) (places p : ℕ) → Question
   -- what is printed for a text
   printFor : (text : List ℕ) → Question
 
@@ -73,12 +77,15 @@ replyTo (finishedFor n s a b w k) = says (saidOfFinished (finished n (tableFrom 
 replyTo (stoppedFor n s a b w k d) = says (saidOfStopped (stopped n (tableFrom n s) a b w k d))
 replyTo (dayFor n s d) = says (saidOfDayChange (dayChange n (tableFrom n s) d))
 replyTo (finishedIn n cs ks a b w k) = says (saidOfFinished (finished n (lent cs ks) a b w k))
+replyTo (stoppedIn n cs ks a b w k d) = says (saidOfStopped (stopped n (lent cs ks) a b w k d))
+replyTo (dayIn n cs ks d) = says (saidOfDayChange (dayChange n (lent cs ks) d))
 replyTo (levelFor n j cs) = says (taken (placesOf (levelStretch n j (length cs)) cs))
 replyTo (recordFor n s) = bytes (recordOf n (tableFrom n s))
 replyTo (writingFor n cs ks size) = says (saidOfWriting (writing n (lent cs ks) size))
 replyTo (readingFor r cs ks) = says (saidOfUnpacking (unpacking r (room cs ks)))
 replyTo (openFor r) = says (saidOfOpening (opening r))
 replyTo (askFor r p) = says (saidOfAsking (asking r p))
+replyTo (viewFor r places p) = says (saidOfAsking (askingView r places p))
 replyTo (printFor text) = bytes (printed text)
 replyTo (edgesFor n a b w k) = says (saidOfEdges (edges n a b w k))
 replyTo (sizeFor n) = says (taken (pos (recordLength n) ∷ pos (recordSize n) ∷ []))

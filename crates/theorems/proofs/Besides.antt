@@ -4,8 +4,9 @@
 use Rattle.kit.proofs.{_≡_, false, List, map, flatten, flatMap, ℕ, _-_, _*_, _/_, _^_, _≤_, _<_, ℤ, pos, length, getD}
 use Rattle.kit.proofs.{take}
 use denote.Ref.{RefT, now}
-use Rattle.words.specs.{dayHours, declared.HourLine.HourLine, declared.Refusal.Refusal}
+use Rattle.words.specs.{dayHours}
 use Rattle.words.specs.declared.{Taking.Taking, Writing.Writing, Unpacking.Unpacking, Asking.Asking, Finished.Finished}
+use Rattle.words.specs.declared.{Answer.Answer, HourLine.HourLine, Refusal.Refusal}
 use Rattle.om3.specs.Document.{upFrom, Series, levels, P, hoursFrom, Table, tableOf, HasTable, lent, tableShort, filled}
 use Rattle.om3.specs.Document.{passes, refuses, inOrder, Bytes, coefficientIn, openingChecks, askingView, asking, day}
 use Rattle.om3.specs.Document.{changeOf, dayChange, column, columnHours, finished, joined, lookThrough, count, gramsOf}
@@ -16,7 +17,7 @@ use Rattle.turning.specs.Turning.{TurnedBack}
 use Rattle.view.specs.{declared.View.View, View.viewOf}
 use Rattle.writing.specs.Writing.{RecordWritten}
 use Rattle.reading.specs.Reading.{RecordRead}
-use Rattle.told.specs.Says.{EachSays}
+use Rattle.told.specs.{Says.EachSays, Columns.answerTold, Columns.answerIn}
 use Rattle.told.proofs as told
 use Rattle.theorems.specs.Printer.{Prints}
 use Rattle.theorems.proofs as theorems
@@ -69,6 +70,10 @@ window-columns = om3.Windows.window-columns
 -- What the boundary tells in structs is what document 01 says of each answer: its number, its place, its values.
 told-says : EachSays
 told-says = told.Says.each-says
+
+-- An answer that was told and is handed in, to be joined, is the same answer.
+answer-back : (a : Answer) → answerIn (answerTold a) ≡ a
+answer-back = told.Back.answer-back
 
 -- From a table that a series has, the change of a day is that of a look through its hours.
 day-change : (n : ℕ) (s : List ℤ) (t : Table) → Series n s → HasTable n s t → (d : ℕ) → dayHours * d < n

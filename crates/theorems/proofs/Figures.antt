@@ -1,7 +1,9 @@
--- Document 01's numbers, and those of documents 003 and 004, as the definitions answer them. Assumes nothing.
+-- Document 01's numbers, those of documents 003 and 004, and two causes at a time, as the definitions answer them.
+-- Assumes nothing.
 use Prim.Native.Nat.{ℕ}
-use Rattle.om3.specs.Numbers.{Answered, numbers, unmarked, outside, further, printing}
+use Rattle.om3.specs.Document.{Answered, numbers, unmarked, outside, further, printing, twoCauses}
 use Rattle.om3.proofs.Numbers.{numbers-hold, unmarked-hold, outside-hold, further-hold, printing-holds}
+use Rattle.om3.proofs.Causes.{two-causes-hold}
 
 -- Document 01's numbers 1 to 10, whatever codes 9 and 10 leave open; its numbers 11 and 12, and the record's sizes;
 -- documents 003 and 004; and where document 01 leaves room or an error comes easily.
@@ -20,3 +22,8 @@ further-numbers = further-hold
 -- Document 01's example of the printer, byte by byte, and texts where it leaves room.
 printed-texts : Answered printing
 printed-texts = printing-holds
+
+-- Where two causes stand together, the one whose turn is first: for each call and each two neighbours of its order that
+-- can.
+two-causes : Answered twoCauses
+two-causes = two-causes-hold

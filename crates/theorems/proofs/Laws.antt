@@ -1,15 +1,17 @@
 -- What is proved of the definitions by themselves: what P is, how nodes are numbered, which nodes are examined and
--- what the examination of a table says, how three bytes hold a number and a record a table, what a column without an
--- hour has, and what a look through hours gives. Assumes nothing.
-use Rattle.kit.proofs.{_≡_, Bool, true, false, List, [], _∷_, _++_, map, foldr, _↔_, ℕ, _+_, _*_, _/_, _^_, _≤_, _<_, ℤ}
-use Rattle.kit.proofs.{length, take}
+-- what the examination of a table says, how three bytes hold a number and a record a table, how edges are rounded, what
+-- a column without an hour has, how far a count goes, what a look through hours gives, and how numbers are printed.
+-- Assumes nothing.
+use Rattle.kit.proofs.{_≡_, Bool, true, false, List, [], _∷_, _++_, map, foldr, _↔_, ℕ, _+_, _-_, _*_, _/_, _^_, _≤_}
+use Rattle.kit.proofs.{_<_, ℤ, length, getD, take}
 use Rattle.words.specs.{largestHours}
 use Rattle.words.specs.declared.{Timestamp.Timestamp, Range.Range, Answer.Answer, Column.Column}
 use Rattle.om3.specs.Document.{every, Series, levels, P, Node, InTree, number, left, right, hours, nodeOf, Table}
 use Rattle.om3.specs.Document.{tableOf, HasTable, turnedBack, passes, inOrder, tableNodes, soundTable, tableShort}
 use Rattle.om3.specs.Document.{examineTable, Bytes, InThree, threeBytes, signedFrom, recordSize, recordOf, hoursIn}
-use Rattle.om3.specs.Document.{tableIn, openingChecks, Openable, askingView, asking, countAt, outer, innerNodes, inner}
-use Rattle.om3.specs.Document.{insideNodes, answer, count, joined, lookThrough}
+use Rattle.om3.specs.Document.{tableIn, openingChecks, Openable, askingView, asking, ceil, countAt, outer, innerNodes}
+use Rattle.om3.specs.Document.{inner, insideNodes, answer, count, joined, ascii, zeroDigit, isDigit, valueOf, decimal}
+use Rattle.om3.specs.Document.{lookThrough}
 use Rattle.om3.proofs as om3
 
 -- P is at least n, for up to 16,384 hours, at least 2, and the smallest such power of two.
@@ -117,6 +119,13 @@ opening-exactly = om3.RecordsOpened.opening-exactly
 asking-opened : (r : List ℕ) (p : ℕ) → inOrder (openingChecks r) ≡ passes → asking r p ≡ askingView r (P (hoursIn r)) p
 asking-opened = om3.RecordsOpened.asking-opened
 
+-- Edges are rounded up: `ceil m w` is the least number that times w is at least m.
+ceil-reaches : (m w : ℕ) → 1 ≤ w → m ≤ ceil m w * w
+ceil-reaches = om3.Arithmetic.ceil-reaches
+
+ceil-least : (m w : ℕ) → 1 ≤ w → ceil m w * w < m + w
+ceil-least = om3.Arithmetic.ceil-least
+
 -- A column without an hour has neither range, no reading and count 0, stopped or finished.
 module _ (l : ℕ) (t : Table) (x : Column) (none : x .upto .0 ≤ x .from .0) where
   no-hour-outer : (d : ℕ) → outer l t x d ≡ Range.Empty
@@ -134,6 +143,10 @@ module _ (l : ℕ) (t : Table) (x : Column) (none : x .upto .0 ≤ x .from .0) w
   no-hour-finished-count : count l t x ≡ 0
   no-hour-finished-count = om3.WithoutHours.none-finished-count l t x none
 
+-- The count at a depth d from 1 to l is at most 4·d − 1, in every table.
+count-at-most : (l : ℕ) (t : Table) (x : Column) (d : ℕ) → d ≤ l → 1 ≤ d → countAt l t x d ≤ 4 * d - 1
+count-at-most = om3.Counted.count-most
+
 -- The non-empty inside visited nodes are the nodes of the inner range at depth l.
 inside-inner : (l : ℕ) (t : Table) (x : Column) → insideNodes l t x ≡ innerNodes l t x l
 inside-inner = om3.KeptNodes.inside-inner
@@ -142,3 +155,17 @@ inside-inner = om3.KeptNodes.inside-inner
 look-through-joined : (n : ℕ) (s : List ℤ) (hs : List Timestamp)
     → lookThrough n s hs ≡ foldr {B = Answer} joined Answer.NoReading (map (λ h. lookThrough n s (h ∷ [])) hs)
 look-through-joined = om3.LookedThrough.look-through-joined
+
+-- A number is printed in digits which, read as a numeral is read, have its value. The first of them is not 0 but for 0
+-- itself, which is one digit.
+decimal-digits : (m : ℕ) → every isDigit (decimal m) ≡ true
+decimal-digits = om3.Arithmetic.decimal-digits
+
+decimal-back : (m : ℕ) → valueOf (decimal m) ≡ m
+decimal-back = om3.Arithmetic.decimal-back
+
+decimal-first : (m : ℕ) → 1 ≤ m → zeroDigit < getD (decimal m) 0 0
+decimal-first = om3.Arithmetic.decimal-first
+
+decimal-zero : decimal 0 ≡ ascii "0"
+decimal-zero = om3.Arithmetic.decimal-zero

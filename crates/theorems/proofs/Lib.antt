@@ -1,5 +1,6 @@
 -- The laws about the calls, those about the definitions, the figures, what is proved beside the demands, and the page.
 pub mod Once
+pub mod Causes
 pub mod Unwritten
 pub mod Calls
 pub mod Records

@@ -1,2 +1,3 @@
 -- What is proved of what the boundary tells.
 pub mod Says
+pub mod Back
