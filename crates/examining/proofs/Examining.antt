@@ -3,8 +3,7 @@
 use Rattle.kit.proofs.{_≡_, refl, sym, ap, _∙_, Bool, true, false, _&&_, List, map, map-append, ℕ, suc, _+_, _-_, _*_}
 use Rattle.kit.proofs.{_/_, _^_, _≤_, _<_, arith, ℤ, pos, getD, mag}
 use Rattle.signed.proofs.{reads-back}
-use Rattle.words.specs.declared.{NodeId.NodeId, Range.Range}
-use Rattle.words.specs.{Readings}
+use Rattle.words.specs.{declared.NodeId.NodeId, declared.Range.Range, Readings}
 use Rattle.om3.specs.Document.{hour, Node, number, left, right, start, Table, lent, leftHalf, rightHalf, firstOfPair}
 use Rattle.om3.specs.Document.{secondOfPair, reached, Check, andThen, inOrder, soundDetails, soundCode, gapFrom}
 use Rattle.om3.specs.Document.{soundNode, nodesBelow, examineNode, examineNodes}

@@ -4,8 +4,7 @@ use Rattle.kit.proofs.{_≡_, sym, List, ℕ, _+_, _*_, _/_, _^_, _≤_, _<_, a
 use Rattle.signed.proofs.{reads-back}
 use Rattle.words.specs.declared.{NodeId.NodeId, Range.Range}
 use Rattle.om3.proofs.Lists.{map-up-length, map-up-from-0}
-use Rattle.node.specs.declared.{Halves.Halves, Root.Root}
-use Rattle.node.specs.Steps.{halvesOf, rootOf}
+use Rattle.node.specs.{declared.Halves.Halves, declared.Root.Root, Steps.halvesOf, Steps.rootOf}
 use Rattle.node.proofs.{Rooms.halved, Rooms.both-places, Told.back}
 use Rattle.examining.specs.declared.Verdict.{Verdict}
 use Rattle.examining.specs.Examining.{Examined}

@@ -3,13 +3,12 @@
 use Rattle.kit.proofs.{_≡_, refl, sym, ap, ap₂, _∙_, true, false, cond, List, [], _∷_, _++_, append-assoc, ℕ, ℤ, eqb}
 use Rattle.kit.proofs.{getD, drop, arith}
 use Rattle.signed.proofs.{clash}
-use Rattle.words.specs.{numberOf, placeOf}
-use Rattle.words.specs.declared.{Refusal.Refusal}
+use Rattle.words.specs.{numberOf, placeOf, declared.Refusal.Refusal}
 use Rattle.words.specs.declared.Refusal.the-variants.{BadHours, BadReading, ShortBuffer, Unsound, BadWindow, BadColumn}
 use Rattle.words.specs.declared.Refusal.the-variants.{TooDeep, CutShort, BadVersion, BadLength, BytesAfter, BadLine}
 use Rattle.words.specs.declared.Refusal.the-variants.{BadPlace}
-use Rattle.om3.specs.Document.{every, hour, passes, refuses, ascii, lineFeed, space, isDigit, valueOf}
-use Rattle.om3.specs.Document.{decimal, refusalLine, drawnText}
+use Rattle.om3.specs.Document.{every, hour, passes, refuses, ascii, lineFeed, space, isDigit, valueOf, decimal}
+use Rattle.om3.specs.Document.{refusalLine, drawnText}
 use Rattle.om3.proofs.{Tests.and-left, Tests.and-right, Arithmetic.decimal-back, Arithmetic.decimal-digits}
 
 -- Digits up to a sign that is none are found again, and so is what follows it.

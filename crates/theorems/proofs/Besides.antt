@@ -4,9 +4,8 @@
 use Rattle.kit.proofs.{_≡_, false, List, map, flatten, flatMap, ℕ, _-_, _*_, _/_, _^_, _≤_, _<_, ℤ, pos, length, getD}
 use Rattle.kit.proofs.{take}
 use denote.Ref.{RefT, now}
-use Rattle.words.specs.{dayHours}
+use Rattle.words.specs.{dayHours, declared.Answer.Answer, declared.HourLine.HourLine, declared.Refusal.Refusal}
 use Rattle.words.specs.declared.{Taking.Taking, Writing.Writing, Unpacking.Unpacking, Asking.Asking, Finished.Finished}
-use Rattle.words.specs.declared.{Answer.Answer, HourLine.HourLine, Refusal.Refusal}
 use Rattle.om3.specs.Document.{upFrom, Series, levels, P, hoursFrom, Table, tableOf, HasTable, lent, tableShort, filled}
 use Rattle.om3.specs.Document.{passes, refuses, inOrder, Bytes, coefficientIn, openingChecks, askingView, asking, day}
 use Rattle.om3.specs.Document.{changeOf, dayChange, column, columnHours, finished, joined, lookThrough, count, gramsOf}
