@@ -7,5 +7,3 @@ pub mod Views
 pub mod Printer
 pub mod Laws
 pub mod Figures
-pub mod Besides
-pub mod Theorems
