@@ -2,7 +2,8 @@
 use Rattle.kit.proofs.{_≡_, refl, sym, ap, ap₂, _∙_, List, ℕ, _+_, _-_, _*_, _/_, _≤_, _<_, arith, ℤ, pos, length, take}
 use Rattle.kit.proofs.{drop, length-drop, length-take-le, take-take, take-add, drop-at, drop-drop, ext-getD}
 use Rattle.words.specs.declared.{Refusal.Refusal, Opening.Opening, Unpacking.Unpacking}
-use Rattle.om3.specs.Document.{P, lent, Check, passes, refuses, inOrder, answerBy, writtenBy, signedFrom, bytesAt}
+use Rattle.om3.specs.Document.{P, lent, Check, passes, refuses, inOrder, answerBy, writtenBy, Bytes, signedFrom}
+use Rattle.om3.specs.Document.{bytesAt}
 use Rattle.om3.specs.Document.{headerSize, hoursIn, coefficientIn, tableIn, openingChecks, unpackingChecks, opening}
 use Rattle.om3.proofs.{Lists.map-up-length, RecordsOpened.opens-formed, RecordsOpened.asked-unpacked}
 use Rattle.om3.proofs.{RecordsTaken.unpacking-parted}
@@ -37,10 +38,10 @@ module _ (r : List ℕ) where
       by passes o h = record { opens = o; hours = cc; places = cc }
       by (refuses why) o h = let z : _≡_ {A = ℕ} 0 1 = cc in absurd (omega arith)
 
-  pub refused-read : (why : Refusal) → Opening.Refused why ≡ opening r → (cs : List ℤ) (ks : List ℕ)
+  pub refused-read : (why : Refusal) → Opening.Refused why ≡ opening r → Bytes r → (cs : List ℤ) (ks : List ℕ)
       → RecordRead r cs ks cs ks (Unpacking.Refused why)
   unfolding opening
-  refused-read why e cs ks = by (inOrder (openingChecks r)) refl e
+  refused-read why e bytes cs ks = by (inOrder (openingChecks r)) refl e
     where
       by : (c : Check) → inOrder (openingChecks r) ≡ c → Opening.Refused why ≡ told c
           → RecordRead r cs ks cs ks (Unpacking.Refused why)
@@ -49,7 +50,7 @@ module _ (r : List ℕ) where
           let same : why ≡ other = cc in
           let checks : inOrder (unpackingChecks r (lent cs ks)) ≡ refuses why =
           unpacking-parted r (lent cs ks) ∙ rw (o, same) in
-          record { answer = rw checks; coefficients = rw checks; codes = rw checks }
+          record { bytes = bytes; answer = rw checks; coefficients = rw checks; codes = rw checks }
 
   module _ (n p : ℕ) (o : Opened n p) where
     abbrev after : ℕ
@@ -109,10 +110,11 @@ module _ (r : List ℕ) where
       checks-left : partsCheck n packed codes cs ks ≡ inOrder (unpackingChecks r (lent cs ks))
       checks-left = rw (unpacking-parted r (lent cs ks), o .opens, coefficients-in, codes-in, o .hours)
 
-      pub parts-read : {cs′ : List ℤ} {ks′ : List ℕ} {u : Unpacking} → PartsRead n packed codes cs ks cs′ ks′ u
-          → RecordRead r cs ks cs′ ks′ u
-      parts-read x =
+      pub parts-read : {cs′ : List ℤ} {ks′ : List ℕ} {u : Unpacking} → Bytes r
+          → PartsRead n packed codes cs ks cs′ ks′ u → RecordRead r cs ks cs′ ks′ u
+      parts-read bytes x =
           record {
+            bytes = bytes;
             answer =
                 x .answer
                 ∙ ap₂ (λ (c : Check) (m : ℕ). answerBy Unpacking.Refused c (Unpacking.Hours m)) checks-left (o .hours);

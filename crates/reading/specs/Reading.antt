@@ -12,6 +12,7 @@ use Rattle.om3.specs.Table.{lent}
 use Rattle.om3.specs.Checks.{Check, inOrder, answerBy}
 use Rattle.om3.specs.Refusals.{tableShort, checkRoom, examineTable}
 use Rattle.om3.specs.Calls.{writtenBy}
+use Rattle.om3.specs.Bytes.{Bytes}
 use Rattle.om3.specs.Record.{tableIn}
 use Rattle.om3.specs.RecordCalls.{unpackingChecks, unpacking}
 use Rattle.packing.specs.Packing.{unpacked}
@@ -28,10 +29,12 @@ pub record PartsRead (n : ℕ) (bs qs : List ℕ) (cs : List ℤ) (ks : List ℕ
   pub coefficients : cs′ ≡ writtenBy (partsCheck n bs qs cs ks) (unpacked bs) cs
   pub codes : ks′ ≡ writtenBy (partsCheck n bs qs cs ks) qs ks
 
--- The record r becomes the table of its hours in the lent coefficients cs and codes ks.
+-- The record r, of bytes as every lent slice of them is, becomes the table of its hours in the lent coefficients cs and
+-- codes ks.
 -- [refusals 14, 15, 16, 19] [statements 1]
 pub record RecordRead (r : List ℕ) (cs : List ℤ) (ks : List ℕ) (cs′ : List ℤ) (ks′ : List ℕ) (u : Unpacking)
     : Type 0 where
+  pub bytes : Bytes r
   pub answer : u ≡ unpacking r (lent cs ks)
   pub coefficients : cs′ ≡ writtenBy (inOrder (unpackingChecks r (lent cs ks))) (tableIn r .coefficients) cs
   pub codes : ks′ ≡ writtenBy (inOrder (unpackingChecks r (lent cs ks))) (tableIn r .codes) ks

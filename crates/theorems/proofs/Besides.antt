@@ -7,7 +7,7 @@ use denote.Ref.{RefT, now}
 use Rattle.words.specs.{dayHours, declared.Answer.Answer, declared.HourLine.HourLine, declared.Refusal.Refusal}
 use Rattle.words.specs.declared.{Taking.Taking, Writing.Writing, Unpacking.Unpacking, Asking.Asking, Finished.Finished}
 use Rattle.om3.specs.Document.{upFrom, Series, levels, P, hoursFrom, Table, tableOf, HasTable, lent, tableShort, filled}
-use Rattle.om3.specs.Document.{passes, refuses, inOrder, Bytes, coefficientIn, openingChecks, askingView, asking, day}
+use Rattle.om3.specs.Document.{passes, refuses, inOrder, coefficientIn, openingChecks, askingView, asking, day}
 use Rattle.om3.specs.Document.{changeOf, dayChange, column, columnHours, finished, joined, lookThrough, count, gramsOf}
 use Rattle.om3.specs.Document.{printingChecks}
 use Rattle.om3.proofs as om3
@@ -16,7 +16,7 @@ use Rattle.turning.specs.Turning.{TurnedBack}
 use Rattle.view.specs.{declared.View.View, View.viewOf}
 use Rattle.writing.specs.Writing.{RecordWritten}
 use Rattle.reading.specs.Reading.{RecordRead}
-use Rattle.told.specs.{Says.EachSays, Columns.answerTold, Columns.answerIn}
+use Rattle.told.specs.Columns.{answerTold, answerIn}
 use Rattle.told.proofs as told
 use Rattle.theorems.specs.Printer.{Prints}
 use Rattle.theorems.proofs as theorems
@@ -39,9 +39,9 @@ read-after-write = theorems.Records.read-after-write
 module _ (r : List ℕ) (cs : List ℤ) (ks : List ℕ) (cs′ : List ℤ) (ks′ : List ℕ) (n : ℕ)
     (done : RecordRead r cs ks cs′ ks′ (Unpacking.Hours n)) where
   -- Writing after reading gives the same record.
-  write-after-read : Bytes r → (out out′ : List ℕ) (w : Writing) → length r ≤ length out
+  write-after-read : (out out′ : List ℕ) (w : Writing) → length r ≤ length out
       → RecordWritten n cs′ ks′ out out′ w → (w ≡ Writing.Bytes (length r)) × (out′ ≡ filled r out)
-  write-after-read = theorems.Records.write-after-read r cs ks cs′ ks′ n done
+  write-after-read = theorems.Records.write-after-read r cs ks cs′ ks′ n done (done .bytes)
 
   -- A coefficient asked for is the one that was unpacked.
   asked-is-unpacked : (p : ℕ) → p < P n → asking r p ≡ Asking.Coefficient (getD cs′ p (pos 0))
@@ -65,10 +65,6 @@ module _ (bytes : RefT (List ℕ)) (v : View) (opens : v ≡ viewOf bytes) (p : 
 window-columns : (a b w : ℕ) → 1 ≤ w → a ≤ b
     → flatMap columnHours (map (column a b w) (upFrom 0 w)) ≡ hoursFrom a (b - a)
 window-columns = om3.Windows.window-columns
-
--- What the boundary tells in structs is what document 01 says of each answer: its number, its place, its values.
-told-says : EachSays
-told-says = told.Says.each-says
 
 -- An answer that was told and is handed in, to be joined, is the same answer.
 answer-back : (a : Answer) → answerIn (answerTold a) ≡ a

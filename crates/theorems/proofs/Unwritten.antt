@@ -1,83 +1,168 @@
--- Where a call is refused, each buffer lent to it is as it was, since what it leaves there is decided by the same
--- checks as its answer. Assumes nothing.
-use Rattle.kit.proofs.{_≡_, refl, ap, _∙_, ℕ, arith, length}
-use Rattle.words.specs.declared.{Refusal.Refusal, Taking.Taking, Writing.Writing, Unpacking.Unpacking}
-use Rattle.om3.specs.Document.{lent, Check, passes, refuses, inOrder, answerBy, makingChecks, turningBackChecks}
-use Rattle.om3.specs.Document.{recordSize, hoursIn, writingChecks, unpackingChecks}
-use Rattle.told.specs.declared.{tables.Told.Told, records.ToldBytes.ToldBytes, records.ToldHours.ToldHours}
-use Rattle.told.specs.{Tables.takingTold, Records.writingTold, Records.unpackingTold}
-use Rattle.sagivelume.specs.Boundary.{Tells}
-use Rattle.theorems.specs.Unwritten.{NothingWritten}
+-- What a refused call of the boundary tells and leaves. What a call answers and what it leaves in a lent buffer are
+-- decided by the same checks, so one case distinction over them serves all calls. Assumes nothing.
+use Rattle.kit.proofs.{_≡_, refl, sym, ap, _∙_, List, _↔_, ℕ, arith}
+use denote.Ref.{now}
+use Rattle.words.specs.{numberOf, placeOf}
+use Rattle.words.specs.declared.{Refusal.Refusal, Taking.Taking, Writing.Writing, Unpacking.Unpacking, Opening.Opening}
+use Rattle.words.specs.declared.{Asking.Asking, Edges.Edges, Stopped.Stopped, Answer.Answer, Finished.Finished}
+use Rattle.words.specs.declared.{DayChange.DayChange}
+use Rattle.words.specs.declared.Refusal.the-variants.{BadHours, BadReading, ShortBuffer, Unsound, BadWindow, BadColumn}
+use Rattle.words.specs.declared.Refusal.the-variants.{TooDeep, CutShort, BadVersion, BadLength, BytesAfter, BadLine}
+use Rattle.words.specs.declared.Refusal.the-variants.{BadPlace}
+use Rattle.om3.specs.Document.{Check, passes, refuses, inOrder, answerBy, levels, lent, answer, day, changeOf}
+use Rattle.om3.specs.Document.{opening, askingView, edges, stopped, finished, dayChange}
+use Rattle.om3.proofs.Examined.{first-cause}
+use Rattle.told.specs.declared.tables.Told.{Told}
+use Rattle.told.specs.declared.records.{ToldBytes.ToldBytes, ToldHours.ToldHours, ToldRecord.ToldRecord}
+use Rattle.told.specs.declared.records.{ToldCoefficient.ToldCoefficient}
+use Rattle.told.specs.declared.columns.{ToldColumn.ToldColumn, ToldRanges.ToldRanges, ToldFinished.ToldFinished}
+use Rattle.told.specs.declared.columns.{ToldChange.ToldChange}
+use Rattle.told.specs.Tables.{takingTold}
+use Rattle.told.specs.Records.{writingTold, unpackingTold, openingTold, askingTold}
+use Rattle.told.specs.Columns.{edgesTold, stoppedTold, finishedTold, changeTold}
+use Rattle.sagivelume.proofs.Clauses.{tells-one}
+use Rattle.theorems.specs.Unwritten.{RefusedTold, EachRefused, NothingWritten}
 
--- A call with these checks, which answers a refusal, or `taken` where they pass.
-module _ {A : Type 0} (refused : Refusal → A) (taken : A) (c : Check) where
-  -- If it does not answer as one that is taken, its checks refused it.
-  was-refused : ¬ (answerBy refused c taken ≡ taken) → (why : Refusal) × (c ≡ refuses why)
-  was-refused other = by c other
+-- No refusal has the number 0.
+pub none-zero : (why : Refusal) → ¬ (numberOf why ≡ 0)
+none-zero BadHours e = omega arith
+none-zero (BadReading h) e = omega arith
+none-zero ShortBuffer e = omega arith
+none-zero (Unsound i) e = omega arith
+none-zero BadWindow e = omega arith
+none-zero BadColumn e = omega arith
+none-zero TooDeep e = omega arith
+none-zero CutShort e = omega arith
+none-zero BadVersion e = omega arith
+none-zero BadLength e = omega arith
+none-zero BytesAfter e = omega arith
+none-zero (BadLine i) e = omega arith
+none-zero BadPlace e = omega arith
+
+-- Two refusals of one check are the same.
+refuses-one : (why why′ : Refusal) → refuses why ≡ refuses why′ → why ≡ why′
+refuses-one why why′ e = cc
+
+-- A call with these checks, its answers, and how the boundary tells them: a refusal by its number and its place, and
+-- what is taken with the number 0.
+module _ {A T : Type 0} (refused : Refusal → A) (taken : A) (told : A → T) (number place : T → ℕ)
+    (by-number : (why : Refusal) → number (told (refused why)) ≡ numberOf why)
+    (by-place : (why : Refusal) → place (told (refused why)) ≡ placeOf why) (zero : number (told taken) ≡ 0)
+    (checks : List Check) (r : T) where
+  pub tells-refusal : r ≡ told (answerBy refused (inOrder checks) taken) → RefusedTold checks (number r) (place r)
+  tells-refusal e = by (inOrder checks) refl
     where
-      by : (c : Check) → ¬ (answerBy refused c taken ≡ taken) → (why : Refusal) × (c ≡ refuses why)
-      by passes other = absurd (other refl)
-      by (refuses why) other = (why, refl)
+      by : (c : Check) → inOrder checks ≡ c → RefusedTold checks (number r) (place r)
+      by passes d =
+          let none : number r ≡ 0 = ap number (rw d at e) ∙ zero in
+          record {
+            cause = λ other. absurd (other none);
+            tells = λ why first.
+                let z : _≡_ {A = ℕ} 0 1 = cc (sym d ∙ first-cause checks why .1 first) in omega arith;
+          }
+      by (refuses why) d =
+          let n : number r ≡ numberOf why = ap number (rw d at e) ∙ by-number why in
+          let p : place r ≡ placeOf why = ap place (rw d at e) ∙ by-place why in
+          record {
+            cause = λ other. (why, first-cause checks why .0 d, n, p);
+            tells = λ why′ first.
+                let same = refuses-one why why′ (sym d ∙ first-cause checks why′ .1 first) in
+                (λ z. none-zero why (sym n ∙ z), n ∙ ap numberOf same, p ∙ ap placeOf same);
+          }
 
-  -- So it is if what is told of its answer has a number that is not that of a call that is taken, 0.
-  told-refused : {T : Type 0} (told : A → T) (number : T → ℕ) → number (told taken) ≡ 0
-      → {promised : A → Type 0} (r : T) (t : Tells promised told r) → t .answer ≡ answerBy refused c taken
-      → ¬ (number r ≡ 0) → (why : Refusal) × (c ≡ refuses why)
-  told-refused told number zero r t e other =
-      was-refused
-      (λ same. other (ap number (t .tells) ∙ ap (λ (a : A). number (told a)) (e ∙ same) ∙ zero))
+  -- Of an answer that the checks decide, the number 0 is told exactly if it is taken.
+  pub zero-taken : (a : A) → r ≡ told a → a ≡ answerBy refused (inOrder checks) taken → (number r ≡ 0) ↔ (a ≡ taken)
+  zero-taken a e d = by (inOrder checks) refl
+    where
+      by : (c : Check) → inOrder checks ≡ c → (number r ≡ 0) ↔ (a ≡ taken)
+      by passes p = (λ z. rw p at d, λ z. ap number (e ∙ ap told z) ∙ zero)
+      by (refuses why) p =
+          let n : number r ≡ numberOf why = ap number (e ∙ ap told (rw p at d)) ∙ by-number why in
+          (λ z. absurd (none-zero why (sym n ∙ z)), λ z. ap number (e ∙ ap told z) ∙ zero)
 
--- A refusal that is answered is not the answer of a call that is taken.
-taking-refused : (c : Check) (why : Refusal) → Taking.Refused why ≡ answerBy Taking.Refused c Taking.Taken
-    → (r : Refusal) × (c ≡ refuses r)
-taking-refused c why e =
-    was-refused Taking.Refused Taking.Taken c (λ same. let z : _≡_ {A = ℕ} 0 1 = cc (e ∙ same) in omega arith)
+-- The calls that answer by Taking, Writing and Unpacking.
+module _ (checks : List Check) where
+  module _ (r : Told) where
+    taking-refusal : r ≡ takingTold (answerBy Taking.Refused (inOrder checks) Taking.Taken)
+        → RefusedTold checks (r .number) (r .place)
+    taking-refusal =
+        tells-refusal Taking.Refused Taking.Taken takingTold (λ (u : Told). u .number) (λ (u : Told). u .place)
+        (λ why. refl) (λ why. refl) refl checks r
 
-writing-refused : (c : Check) (n : ℕ) (why : Refusal)
-    → Writing.Refused why ≡ answerBy Writing.Refused c (Writing.Bytes (recordSize n)) → (r : Refusal) × (c ≡ refuses r)
-writing-refused c n why e =
-    was-refused Writing.Refused (Writing.Bytes (recordSize n)) c
-    (λ same. let z : _≡_ {A = ℕ} 0 1 = cc (e ∙ same) in omega arith)
+    pub taking-zero : (a : Taking) → r ≡ takingTold a → a ≡ answerBy Taking.Refused (inOrder checks) Taking.Taken
+        → (r .number ≡ 0) ↔ (a ≡ Taking.Taken)
+    taking-zero =
+        zero-taken Taking.Refused Taking.Taken takingTold (λ (u : Told). u .number) (λ (u : Told). u .place)
+        (λ why. refl) (λ why. refl) refl checks r
 
-unpacking-refused : (c : Check) (n : ℕ) (why : Refusal)
-    → Unpacking.Refused why ≡ answerBy Unpacking.Refused c (Unpacking.Hours n) → (r : Refusal) × (c ≡ refuses r)
-unpacking-refused c n why e =
-    was-refused Unpacking.Refused (Unpacking.Hours n) c
-    (λ same. let z : _≡_ {A = ℕ} 0 1 = cc (e ∙ same) in omega arith)
+  module _ (hours : ℕ) (r : ToldHours) where
+    pub unpacking-zero : (a : Unpacking) → r ≡ unpackingTold a
+        → a ≡ answerBy Unpacking.Refused (inOrder checks) (Unpacking.Hours hours)
+        → (r .number ≡ 0) ↔ (a ≡ Unpacking.Hours hours)
+    unpacking-zero =
+        zero-taken Unpacking.Refused (Unpacking.Hours hours) unpackingTold (λ (u : ToldHours). u .number)
+        (λ (u : ToldHours). u .place) (λ why. refl) (λ why. refl) refl checks r
+
+-- A day that is taken tells number 0, with a reading or without.
+change-zero : (a : Answer) → changeTold (changeOf a) .number ≡ 0
+change-zero Answer.NoReading = refl
+change-zero (Answer.Found s) = refl
+
+pub each-refused : EachRefused
+unfolding opening askingView edges stopped finished dayChange
+each-refused =
+    record {
+      make = λ κs n readings coefficients codes r e m.
+          taking-refusal _ r (tells-one m (m .keeps .answer));
+      turn-back = λ κs n coefficients codes hours r e m.
+          taking-refusal _ r (tells-one m (m .keeps .answer));
+      write-record = λ κs n coefficients codes bytes r e m.
+          tells-refusal Writing.Refused _ writingTold (λ (u : ToldBytes). u .number) (λ (u : ToldBytes). u .place)
+          (λ why. refl) (λ why. refl) refl _ r (tells-one m (m .keeps .answer));
+      read-record = λ κs bytes coefficients codes r e m.
+          tells-refusal Unpacking.Refused _ unpackingTold (λ (u : ToldHours). u .number) (λ (u : ToldHours). u .place)
+          (λ why. refl) (λ why. refl) refl _ r (tells-one m (m .keeps .answer));
+      open-record = λ κs bytes r e m.
+          tells-refusal Opening.Refused _ openingTold (λ (u : ToldRecord). u .number) (λ (u : ToldRecord). u .place)
+          (λ why. refl) (λ why. refl) refl _ r m;
+      ask = λ κs bytes places place r e m.
+          tells-refusal Asking.Refused _ askingTold (λ (u : ToldCoefficient). u .number)
+          (λ (u : ToldCoefficient). u .place) (λ why. refl) (λ why. refl) refl _ r m;
+      column-edges = λ κs n a b w k r e m.
+          tells-refusal Edges.Refused _ edgesTold (λ (u : ToldColumn). u .number) (λ (u : ToldColumn). u .place)
+          (λ why. refl) (λ why. refl) refl _ r m;
+      stopped-column = λ κs n coefficients codes a b w k d r e m.
+          tells-refusal Stopped.Refused _ stoppedTold (λ (u : ToldRanges). u .number) (λ (u : ToldRanges). u .place)
+          (λ why. refl) (λ why. refl) refl _ r m;
+      finished-column = λ κs n coefficients codes a b w k r e m.
+          tells-refusal Finished.Refused _ finishedTold (λ (u : ToldFinished). u .number)
+          (λ (u : ToldFinished). u .place) (λ why. refl) (λ why. refl) refl _ r m;
+      day-change = λ κs n coefficients codes d r e m.
+          tells-refusal DayChange.Refused _ changeTold (λ (u : ToldChange). u .number) (λ (u : ToldChange). u .place)
+          (λ why. refl) (λ why. refl)
+          (change-zero (answer (levels n) (lent (now coefficients) (now codes)) (day n d))) _ r m;
+    }
+
+-- What is told with another number than 0 was refused by some check.
+refused-by : (checks : List Check) (number place : ℕ) → RefusedTold checks number place → ¬ (number ≡ 0)
+    → (why : Refusal) × (inOrder checks ≡ refuses why)
+refused-by checks number place told other =
+    let c = told .cause other in
+    (c .0, first-cause checks (c .0) .1 (c .1))
 
 pub nothing-written : NothingWritten
 nothing-written =
     record {
-      make = λ n s cs cs′ ks ks′ why m.
-          let c = taking-refused (inOrder (makingChecks n s (lent cs ks))) why (m .answer) in
-          (rw (c .1) at (m .coefficients), rw (c .1) at (m .codes));
-      turn-back = λ n cs ks out out′ why m.
-          let c = taking-refused (inOrder (turningBackChecks n (lent cs ks) (length out))) why (m .answer) in
-          rw (c .1) at (m .hours);
-      write-record = λ n cs ks out out′ why m.
-          let c = writing-refused (inOrder (writingChecks n (lent cs ks) (length out))) n why (m .answer) in
-          rw (c .1) at (m .bytes);
-      read-record = λ bs cs cs′ ks ks′ why m.
-          let c = unpacking-refused (inOrder (unpackingChecks bs (lent cs ks))) (hoursIn bs) why (m .answer) in
-          (rw (c .1) at (m .coefficients), rw (c .1) at (m .codes));
-      make-told = λ n s cs cs′ ks ks′ r other m.
-          let checks = inOrder (makingChecks n s (lent cs ks)) in
-          let c = told-refused Taking.Refused Taking.Taken checks takingTold
-          (λ (u : Told). u .number) refl r m (m .keeps .answer) other in
+      make = λ κs n readings coefficients codes r e m other.
+          let c = refused-by _ _ _ (each-refused .make κs n readings coefficients codes r e m) other in
           (rw (c .1) at (m .keeps .coefficients), rw (c .1) at (m .keeps .codes));
-      turn-back-told = λ n cs ks out out′ r other m.
-          let checks = inOrder (turningBackChecks n (lent cs ks) (length out)) in
-          let c = told-refused Taking.Refused Taking.Taken checks takingTold
-          (λ (u : Told). u .number) refl r m (m .keeps .answer) other in
+      turn-back = λ κs n coefficients codes hours r e m other.
+          let c = refused-by _ _ _ (each-refused .turn-back κs n coefficients codes hours r e m) other in
           rw (c .1) at (m .keeps .hours);
-      write-record-told = λ n cs ks out out′ r other m.
-          let checks = inOrder (writingChecks n (lent cs ks) (length out)) in
-          let c = told-refused Writing.Refused (Writing.Bytes (recordSize n)) checks writingTold
-          (λ (u : ToldBytes). u .number) refl r m (m .keeps .answer) other in
+      write-record = λ κs n coefficients codes bytes r e m other.
+          let c = refused-by _ _ _ (each-refused .write-record κs n coefficients codes bytes r e m) other in
           rw (c .1) at (m .keeps .bytes);
-      read-record-told = λ bs cs cs′ ks ks′ r other m.
-          let checks = inOrder (unpackingChecks bs (lent cs ks)) in
-          let c = told-refused Unpacking.Refused (Unpacking.Hours (hoursIn bs)) checks unpackingTold
-          (λ (u : ToldHours). u .number) refl r m (m .keeps .answer) other in
+      read-record = λ κs bytes coefficients codes r e m other.
+          let c = refused-by _ _ _ (each-refused .read-record κs bytes coefficients codes r e m) other in
           (rw (c .1) at (m .keeps .coefficients), rw (c .1) at (m .keeps .codes));
     }

@@ -1,5 +1,6 @@
 -- `read_record` opens the record and reads its parts, or hands on why it was refused. Assumes nothing.
 use Rattle.kit.proofs.{sym, _∙_, arith, needs}
+use Rattle.om3.specs.Document.{Bytes}
 use Rattle.reading.proofs.ReadingRecords as laws
 use Rattle.reading.proofs.read_record.Statement.{statement}
 use Rattle.reading.proofs.read_record.Tie as tie
@@ -11,6 +12,10 @@ opened : (c : tie.After-known-told) →
 opened c =
     let c1 = c .before in
     laws.opened _ _ _ (sym (c1 .hours .given .1) ∙ c1 .before .before .open-record .ensures)
+
+-- What is lent as bytes are bytes.
+lent-bytes : (c : tie.After-open-record) → Bytes (c .before .before .before .args .bytes .now)
+lent-bytes c p h = omega (arith, c .before .before .shared-slice-known .given p)
 
 mul-at : tie.Need-mul-at
 mul-at c =
@@ -36,13 +41,15 @@ read-parts-requires c κs = laws.packed-table _ _ _ (opened (c .before .before .
 
 returns : tie.Need-returns
 returns c =
-    let c3 = c .before .before .before in
-    laws.parts-read _ _ _ (opened (c3 .before .before .before .before .before)) _ _ (c3 .read-parts .ensures)
+    let read = c .before .before .before in
+    let counted = read .before .before .before .before .before in
+    laws.parts-read _ _ _ (opened counted) _ _ (lent-bytes (counted .before .before .before)) (read .read-parts .ensures)
 
 returns-2 : tie.Need-returns-2
 returns-2 c =
-    let c1 = c .before in
-    laws.refused-read _ _ (sym (c1 .why .given .1) ∙ c1 .before .before .open-record .ensures) _ _
+    let refused = c .before in
+    let asked = refused .before .before in
+    laws.refused-read _ _ (sym (refused .why .given .1) ∙ asked .open-record .ensures) (lent-bytes asked) _ _
 
 pub read-record-spec : {M : Type 1} → statement M
 read-record-spec =
