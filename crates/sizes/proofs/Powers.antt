@@ -1,5 +1,5 @@
 -- Powers of two found without counting up: n − 1 has l bits, and 1 shifted left by j is 2^j. Assumes nothing.
-use Rattle.kit.proofs.{_≡_, ap, ⊎-elim, ℕ, _+_, _-_, _*_, _%_, _^_, _≤_, _<_, two-pow-succ, le-antisymm, arith}
+use Rattle.kit.proofs.{_≡_, ap, ⊎-elim, ℕ, _-_, _*_, _%_, _^_, _≤_, _<_, two-pow-succ, le-antisymm, arith}
 use Rattle.kit.proofs.{pow-mono}
 use native.Mathlib.Nat.{one-mul}
 use lib.Count.{leadingZeros, leading-length}

@@ -1,6 +1,6 @@
--- Demand 2, the table is OM3's with document 01's rules for gaps, and it can be turned back: of the calls of the boundary
--- as they are shipped. A call has lifetimes κs, its arguments, an answer r and its parameters e as it leaves them;
--- `now` is what a lent buffer holds. Assumes nothing.
+-- Demand 2, the table is OM3's with document 01's rules for gaps, and it can be turned back: of the calls of the
+-- boundary as they are shipped. A call has lifetimes κs, its arguments, an answer r and its parameters e as it
+-- leaves them; `now` is what a lent buffer holds. Assumes nothing.
 use Rattle.kit.proofs.{_≡_, false, List, _↔_, ℕ, _≤_, ℤ, length, take}
 use denote.Ref.{now}
 use Rattle.kit.specs.Calls.{second, third, fourth}

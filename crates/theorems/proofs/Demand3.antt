@@ -1,18 +1,21 @@
--- Demand 3, columns drawn from a table that was made from readings, for every l at once: of the calls of the boundary as
--- they are shipped. A call has lifetimes κs, its arguments, an answer r and its parameters e as it leaves them; `now`
--- is what a lent buffer holds. That a table has a series is what making leaves (make-has, Demand2). Assumes nothing.
+-- Demand 3, columns drawn from a table that was made from readings, for every l at once: of the calls of the
+-- boundary as they are shipped. A call has lifetimes κs, its arguments, an answer r and its parameters e as it
+-- leaves them; `now` is what a lent buffer holds. That a table has a series is what making leaves (make-has,
+-- Demand2). Assumes nothing.
 use Rattle.kit.proofs.{_≡_, false, true, map, List, ℕ, _-_, _*_, _≤_, ℤ}
 use denote.Ref.{RefT, now}
 use Rattle.words.specs.{lowOf, highOf}
 use Rattle.words.specs.declared.{Timestamp.Timestamp, Column.Column}
 use Rattle.om3.specs.Document.{Series, levels, hourOf, isGap, Table, HasTable, lent, look, column}
-use Rattle.om3.specs.Document.{inColumn, columnHours, lookThrough, Covers, LiesWithin, outer, inner, countAt, count, Drawn, Ranged}
+use Rattle.om3.specs.Document.{inColumn, columnHours, lookThrough, Covers, LiesWithin, outer, inner, countAt, count}
+use Rattle.om3.specs.Document.{Drawn, Ranged}
 use Rattle.om3.proofs as om3
 use Rattle.told.specs.Columns.{answerTold}
 use Rattle.sagivelume.proofs.Clauses as boundary
 use Rattle.theorems.proofs.Boundary as told
 
--- The series s of n hours has the table in the two lent buffers, and column k of the window [a, b) in w columns is drawn.
+-- The series s of n hours has the table in the two lent buffers, and column k of the window [a, b) in w columns is
+-- drawn.
 module _ (n : ℕ) (s : List ℤ) (coefficients : RefT (List ℤ)) (codes : RefT (List ℕ)) (series : Series n s)
     (has : HasTable n s (lent (now coefficients) (now codes))) (a b w k : ℕ) (drawn : Drawn n a b w k) where
   abbrev l : ℕ

@@ -2,8 +2,7 @@
 -- of single coefficients. Assumes nothing.
 use Rattle.kit.proofs.{_≡_, refl, sym, ap, _∙_, false, List, [], _∷_, _↔_, ℕ, _+_, _*_, _/_, _≤_, _<_, arith, ℤ, pos}
 use Rattle.kit.proofs.{length, getD, take, List·getD-append, lt-leb, le-ltb}
-use Rattle.words.specs.declared.{Refusal.the-variants.ShortBuffer, Writing.Writing, Unpacking.Unpacking}
-use Rattle.words.specs.declared.{Opening.Opening, Asking.Asking}
+use Rattle.words.specs.declared.{Refusal.Refusal, Writing.Writing, Unpacking.Unpacking, Opening.Opening, Asking.Asking}
 use Rattle.om3.specs.Document.{Series, levels, P, Table, tableOf, HasTable, lent, Check, passes, refuses, andThen}
 use Rattle.om3.specs.Document.{inOrder, answerBy, tableShort, checkRoom, examineTable, filled, Bytes, recordSize}
 use Rattle.om3.specs.Document.{recordOf, HasRecord, headerSize, hoursIn, tableIn, writingChecks, openingChecks}
@@ -12,10 +11,10 @@ use Rattle.sizes.specs.Lent.{Enough}
 use Rattle.om3.proofs.{Making.good-some, Lent.coefficients-there, Lent.codes-there, Filled.filled-first}
 use Rattle.om3.proofs.{Filled.filled-room, Records.record-size, RecordsOpened.opens-formed}
 use Rattle.om3.proofs.{RecordsOpened.asked-unpacked}
-use Rattle.om3.proofs.RecordsTaken.{reading-exactly, record-hours, record-table}
+use Rattle.om3.proofs.RecordsTaken.{reading-exactly, record-hours, record-table, unpacking-parted, opened-room}
+use Rattle.om3.proofs.RecordsTaken.{table-record, made-read}
 use Rattle.om3.proofs.Examined.{then-first, then-second, first-absent, examine-sound}
 use Rattle.sizes.proofs.{Lent.table-room, TableChecks.decided, TableChecks.passed}
-use Rattle.om3.proofs.RecordsTaken.{unpacking-parted, opened-room, table-record, made-read}
 use Rattle.om3.proofs.Demand2 as demand2
 use Rattle.opening.proofs.Asked.{opened-asked}
 use Rattle.writing.specs.Writing.{RecordWritten}
@@ -125,7 +124,7 @@ module _ (r : List ℕ) (cs : List ℤ) (ks : List ℕ) (cs′ : List ℤ) (ks�
 
   room-lent : tableShort (hoursIn r) (lent cs ks) ≡ false
   room-lent =
-      first-absent (tableShort (hoursIn r) (lent cs ks)) ShortBuffer _
+      first-absent (tableShort (hoursIn r) (lent cs ks)) Refusal.ShortBuffer _
       (then-second (inOrder (openingChecks r)) _ parted) .0
 
   left-room : (P (hoursIn r) ≤ length cs′) × (P (hoursIn r) / 2 ≤ length ks′)

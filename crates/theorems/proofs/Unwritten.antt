@@ -6,9 +6,7 @@ use Rattle.words.specs.{numberOf, placeOf}
 use Rattle.words.specs.declared.{Refusal.Refusal, Taking.Taking, Writing.Writing, Unpacking.Unpacking, Opening.Opening}
 use Rattle.words.specs.declared.{Asking.Asking, Edges.Edges, Stopped.Stopped, Answer.Answer, Finished.Finished}
 use Rattle.words.specs.declared.{DayChange.DayChange}
-use Rattle.words.specs.declared.Refusal.the-variants.{BadHours, BadReading, ShortBuffer, Unsound, BadWindow, BadColumn}
-use Rattle.words.specs.declared.Refusal.the-variants.{TooDeep, CutShort, BadVersion, BadLength, BytesAfter, BadLine}
-use Rattle.words.specs.declared.Refusal.the-variants.{BadPlace}
+use Rattle.words.specs.declared.Refusal.the-variants as refusal
 use Rattle.om3.specs.Document.{Check, passes, refuses, inOrder, answerBy, levels, lent, answer, day, changeOf}
 use Rattle.om3.specs.Document.{opening, askingView, edges, stopped, finished, dayChange}
 use Rattle.om3.proofs.Examined.{first-cause}
@@ -25,19 +23,19 @@ use Rattle.theorems.specs.Unwritten.{RefusedTold, EachRefused, NothingWr
 
 -- No refusal has the number 0.
 pub none-zero : (why : Refusal) → ¬ (numberOf why ≡ 0)
-none-zero BadHours e = omega arith
-none-zero (BadReading h) e = omega arith
-none-zero ShortBuffer e = omega arith
-none-zero (Unsound i) e = omega arith
-none-zero BadWindow e = omega arith
-none-zero BadColumn e = omega arith
-none-zero TooDeep e = omega arith
-none-zero CutShort e = omega arith
-none-zero BadVersion e = omega arith
-none-zero BadLength e = omega arith
-none-zero BytesAfter e = omega arith
-none-zero (BadLine i) e = omega arith
-none-zero BadPlace e = omega arith
+none-zero refusal.BadHours e = omega arith
+none-zero (refusal.BadReading h) e = omega arith
+none-zero refusal.ShortBuffer e = omega arith
+none-zero (refusal.Unsound i) e = omega arith
+none-zero refusal.BadWindow e = omega arith
+none-zero refusal.BadColumn e = omega arith
+none-zero refusal.TooDeep e = omega arith
+none-zero refusal.CutShort e = omega arith
+none-zero refusal.BadVersion e = omega arith
+none-zero refusal.BadLength e = omega arith
+none-zero refusal.BytesAfter e = omega arith
+none-zero (refusal.BadLine i) e = omega arith
+none-zero refusal.BadPlace e = omega arith
 
 -- Two refusals of one check are the same.
 refuses-one : (why why′ : Refusal) → refuses why ≡ refuses why′ → why ≡ why′

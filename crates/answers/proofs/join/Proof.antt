@@ -9,18 +9,18 @@ returns-2 c = rw (c .before .before .before .left .given .1, c .enum-told2 .give
 
 returns-3 : tie.Need-returns-3
 returns-3 c =
-    let c3 = c .before .before .before in
-    let c5 = c3 .before .before in
-    let c9 = c5 .before .before .before .before in
-    let c12 = c9 .before .before .before in
-    let l = c3 .lesser in
+    let after-lesser = c .before .before .before in
+    let after-struct-told = after-lesser .before .before in
+    let after-right = after-struct-told .before .before .before .before in
+    let after-left = after-right .before .before .before in
+    let l = after-lesser .lesser in
     let g = c .greater in
-    let a = c12 .left .given in
-    let b = c9 .right .given in
+    let a = after-left .left .given in
+    let b = after-right .right .given in
     rw (a .1, b .1, reads-back (l .result) (l .ok), reads-back (g .result) (g .ok), l .ensures, g .ensures)
     (rw (
-      reads-back (a .0 .0 .low) (c5 .struct-told .given .1 .1 .0 .1),
-      reads-back (b .0 .0 .low) (c3 .before .struct-told2 .given .1 .1 .0 .1),
+      reads-back (a .0 .0 .low) (after-struct-told .struct-told .given .1 .1 .0 .1),
+      reads-back (b .0 .0 .low) (after-lesser .before .struct-told2 .given .1 .1 .0 .1),
       reads-back (a .0 .0 .high) (c .before .before .struct-told3 .given .1 .1 .1 .0 .1),
       reads-back (b .0 .0 .high) (c .before .struct-told4 .given .1 .1 .1 .0 .1),
     ))

@@ -44,20 +44,21 @@ found-requires c κs =
 
 returns-2 : tie.Need-returns-2
 returns-2 c =
-    let c3 = c .before .before .before in
-    let told = rw (c .before .i .given .1) at (c3 .visit-table .ensures) in
-    laws.finished-unsound _ _ _ _ (c3 .before .if1 .left) _ told
+    let visited = c .before .before .before in
+    let told = rw (c .before .i .given .1) at (visited .visit-table .ensures) in
+    laws.finished-unsound _ _ _ _ (visited .before .if1 .left) _ told
 
 returns-3 : tie.Need-returns-3
 returns-3 c =
-    let c4 = c .before .before .before .before in
+    let tested = c .before .before .before .before in
     rw (c .before .before .count-of .ensures)
-    (laws.finished-nothing _ _ _ _ (hour-at c4 .if1 .left) _ (through c4) (c .enum-told .given .1))
+    (laws.finished-nothing _ _ _ _ (hour-at tested .if1 .left) _ (through tested) (c .enum-told .given .1))
 
 returns-4 : tie.Need-returns-4
 returns-4 c =
-    let c6 = c .before .before .before .before .before .before in
-    laws.finished-nodes _ _ _ _ (hour-at c6 .if1 .left) _ (through c6) _ _ _ (c .before .before .nodes .given .1) _
+    let tested = c .before .before .before .before .before .before in
+    laws.finished-nodes _ _ _ _ (hour-at tested .if1 .left) _ (through tested) _ _ _
+    (c .before .before .nodes .given .1) _
     (rw (c .before .before .before .before .count-of .ensures) at (c .found .ensures))
 
 pub finished-over-spec : {M : Type 1} → statement M

@@ -24,18 +24,18 @@ came-last c = rw (c .latest .given .1) at (c .before .before .walk2 .ensures)
 
 add-walked : tie.Need-add-walked
 add-walked c =
-    let c5 = c .before .before .before .before .before in
-    let start = c5 .before .before .before .before in
-    omega (arith, came-first c5 .few _ _ refl, ends-within (start .pre .0 .0), start .pre .1)
+    let walked-both = c .before .before .before .before .before in
+    let start = walked-both .before .before .before .before in
+    omega (arith, came-first walked-both .few _ _ refl, ends-within (start .pre .0 .0), start .pre .1)
 
 add-walked-2 : tie.Need-add-walked-2
 add-walked-2 c =
-    let c1 = c .before in
-    let c5 = c1 .before .before .before .before in
-    let start = c5 .before .before .before .before in
+    let walked-both = c .before in
+    let first-walked = walked-both .before .before .before .before in
+    let start = first-walked .before .before .before .before in
     let first = ends-within (start .pre .0 .0) in
     let last = ends-within (start .pre .0 .1) in
-    omega (arith, came-first c5 .few _ _ refl, came-last c1 .few _ _ refl, start .pre .1)
+    omega (arith, came-first first-walked .few _ _ refl, came-last walked-both .few _ _ refl, start .pre .1)
 
 returns : tie.Need-returns
 returns c =
@@ -44,10 +44,10 @@ returns c =
 
 returns-2 : tie.Need-returns-2
 returns-2 c =
-    let c1 = c .before in
-    let c3 = c1 .before .before in
-    let told = rw (c1 .i2 .given .1) at (c3 .walk2 .ensures) in
-    laws.last-unsound _ _ _ _ _ _ _ _ _ (came-first (c3 .before .before)) _ told
+    let unsound = c .before in
+    let walked = unsound .before .before in
+    let told = rw (unsound .i2 .given .1) at (walked .walk2 .ensures) in
+    laws.last-unsound _ _ _ _ _ _ _ _ _ (came-first (walked .before .before)) _ told
 
 returns-3 : tie.Need-returns-3
 returns-3 c =

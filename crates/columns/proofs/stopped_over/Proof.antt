@@ -22,21 +22,21 @@ returns c = laws.stopped-none _ _ _ _ _ (c .if1 .taken)
 
 count-of-requires : tie.Need-count-of-requires
 count-of-requires c κs =
-    let c2 = c .before .before in
-    let start = hour-at c2 .before .before .before in
-    omega (arith, through c2 .few _ refl, P-most (start .args .n))
+    let seen = c .before .before in
+    let start = hour-at seen .before .before .before in
+    omega (arith, through seen .few _ refl, P-most (start .args .n))
 
 returns-2 : tie.Need-returns-2
 returns-2 c =
-    let c3 = c .before .before .before in
-    let told = rw (c .before .i .given .1) at (c3 .visit-table .ensures) in
-    laws.stopped-unsound _ _ _ _ _ (c3 .before .if1 .left) _ told
+    let visited = c .before .before .before in
+    let told = rw (c .before .i .given .1) at (visited .visit-table .ensures) in
+    laws.stopped-unsound _ _ _ _ _ (visited .before .if1 .left) _ told
 
 returns-3 : tie.Need-returns-3
 returns-3 c =
-    let c3 = c .before .before .before in
+    let tested = c .before .before .before in
     rw (c .before .inner-range .ensures, c .count-of .ensures)
-    (laws.stopped-seen _ _ _ _ _ (hour-at c3 .if1 .left) _ (through c3))
+    (laws.stopped-seen _ _ _ _ _ (hour-at tested .if1 .left) _ (through tested))
 
 pub stopped-over-spec : {M : Type 1} → statement M
 stopped-over-spec =

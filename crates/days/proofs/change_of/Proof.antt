@@ -12,13 +12,14 @@ held c = rw (c .answer .given .1) at (c .before .before .pre)
 
 sub-grams : tie.Need-sub-grams
 sub-grams c =
-    let c3 = c .before .before .before in
-    laws.change-fits (c3 .answer .given .0 .0) (held c3)
+    let answered = c .before .before .before in
+    laws.change-fits (answered .answer .given .0 .0) (held answered)
 
 returns-2 : tie.Need-returns-2
 returns-2 c =
-    let c3 = c .before .before .before in
-    rw (c3 .answer .given .1) (ap DayChange.Grams (laws.change-is (c3 .answer .given .0 .0) (held c3)))
+    let answered = c .before .before .before in
+    rw (answered .answer .given .1)
+    (ap DayChange.Grams (laws.change-is (answered .answer .given .0 .0) (held answered)))
 
 pub change-of-spec : {M : Type 1} → statement M
 change-of-spec = tie.close (tie.spec (λ c. search needs) (λ c. search needs) sub-grams (λ c. search needs) returns-2)

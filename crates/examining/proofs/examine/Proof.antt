@@ -48,9 +48,9 @@ examine-below-requires c κs =
 
 returns-2 : tie.Need-returns-2
 returns-2 c =
-    let c2 = c .before .before in
-    let told = c2 .before .before in
-    laws.root-examined _ _ _ _ (root-told told (c2 .root .given .1)) _ (startOf told .pre .0) _
+    let after-root = c .before .before in
+    let told = after-root .before .before in
+    laws.root-examined _ _ _ _ (root-told told (after-root .root .given .1)) _ (startOf told .pre .0) _
     (c .examine-below .ensures)
 
 pub examine-spec : {M : Type 1} → statement M

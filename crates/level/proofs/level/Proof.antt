@@ -6,13 +6,13 @@ use Rattle.level.proofs.Stretches.{part-fits, part-is}
 
 add-end : tie.Need-add-end
 add-end c =
-    let c2 = c .before .before in
-    omega (arith, part-fits _ _ (c2 .args .coefficients .now) _ (c .before .stretch .ensures), c2 .good)
+    let start = c .before .before in
+    omega (arith, part-fits _ _ (start .args .coefficients .now) _ (c .before .stretch .ensures), start .good)
 
 mul-result : tie.Need-mul-result
 mul-result c =
-    let c2 = c .before .before in
-    omega (arith, part-fits _ _ (c2 .args .coefficients .now) _ (c .before .stretch .ensures), c2 .good)
+    let start = c .before .before in
+    omega (arith, part-fits _ _ (start .args .coefficients .now) _ (c .before .stretch .ensures), start .good)
 
 part-result-end : tie.Need-part-result-end
 part-result-end c = part-fits _ _ (c .before .before .args .coefficients .now) _ (c .before .stretch .ensures)

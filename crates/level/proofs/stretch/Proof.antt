@@ -22,28 +22,28 @@ returns-2 c =
 
 returns-3 : tie.Need-returns-3
 returns-3 c =
-    let c2 = c .before .before in
-    let room = rw (c2 .places .ensures) at (c .before .if2 .left) in
-    laws.too-deep _ _ _ (good (c2 .before)) room (c .if3 .taken)
+    let sized = c .before .before in
+    let room = rw (sized .places .ensures) at (c .before .if2 .left) in
+    laws.too-deep _ _ _ (good (sized .before)) room (c .if3 .taken)
 
 mul-if4 : tie.Need-mul-if4
 mul-if4 c = omega (arith, laws.small-power _ _ (c .power .ensures) (c .before .if3 .left))
 
 returns-4 : tie.Need-returns-4
 returns-4 c =
-    let c3 = c .before .before .before in
-    let c4 = c3 .before in
-    let p = c4 .places .ensures in
-    laws.too-wide _ _ _ (good (c4 .before)) (rw p at (c3 .if2 .left))
+    let tested = c .before .before .before in
+    let sized = tested .before in
+    let p = sized .places .ensures in
+    laws.too-wide _ _ _ (good (sized .before)) (rw p at (tested .if2 .left))
     (rw (p, c .before .power .ensures) at (c .if4 .taken))
 
 returns-5 : tie.Need-returns-5
 returns-5 c =
-    let c3 = c .before .before .before in
-    let c4 = c3 .before in
-    let p = c4 .places .ensures in
+    let tested = c .before .before .before in
+    let sized = tested .before in
+    let p = sized .places .ensures in
     rw (c .before .power .ensures)
-    (laws.there _ _ _ (good (c4 .before)) (rw p at (c3 .if2 .left))
+    (laws.there _ _ _ (good (sized .before)) (rw p at (tested .if2 .left))
     (rw (p, c .before .power .ensures) at (c .if4 .left)))
 
 pub stretch-spec : {M : Type 1} → statement M

@@ -10,10 +10,10 @@ use Rattle.opening.proofs.open_record.Tie as tie
 header : (c : tie.After-number-from) →
     laws.Header (c .before .before .before .before .before .before .args .bytes .now) (c .number-from .result)
 header c =
-    let c2 = c .before .before in
+    let tested = c .before .before in
     record {
-      long = c2 .before .before .if1 .left;
-      isVersion = c2 .if2 .left;
+      long = tested .before .before .if1 .left;
+      isVersion = tested .if2 .left;
       hours = c .number-from .ensures .0;
     }
 
@@ -26,10 +26,10 @@ stated : (c : tie.After-number-from2) →
     let r = c6 .before .before .before .before .before .before .args .bytes .now in
     laws.Stated r _ (header c6) (c .before .before .record-size .result) (c .number-from2 .result))
 stated c =
-    let c3 = c .before .before .before in
+    let sized = c .before .before .before in
     record {
-      good = good (c3 .before);
-      whole = rw (c3 .places .ensures) at (c .before .before .record-size .ensures);
+      good = good (sized .before);
+      whole = rw (sized .places .ensures) at (c .before .before .record-size .ensures);
       field = c .number-from2 .ensures .0;
     }
 
@@ -50,9 +50,9 @@ record-size-requires c κs = rw (c .places .ensures) (P-most (c .before .before 
 
 add-if4 : tie.Need-add-if4
 add-if4 c =
-    let c6 = c .before .before .before .before .before .before in
-    let r = c6 .before .before .before .before .before .before .args .bytes .now in
-    let four : 4 ≤ length r = omega (arith, header c6 .long) in
+    let after-long = c .before .before .before .before .before .before in
+    let r = after-long .before .before .before .before .before .before .args .bytes .now in
+    let four : 4 ≤ length r = omega (arith, header after-long .long) in
     omega (arith, rw (length-take-le 4 r four) at (c .number-from2 .ensures .1))
 
 returns-4 : tie.Need-returns-4
@@ -63,15 +63,15 @@ returns-5 c = laws.fewer-bytes _ _ _ _ _ (stated (c .before .before)) (c .before
 
 returns-6 : tie.Need-returns-6
 returns-6 c =
-    let c2 = c .before .before in
-    laws.more-bytes _ _ _ _ _ (stated (c2 .before)) (c2 .if4 .left) (c .if6 .taken)
+    let tested = c .before .before in
+    laws.more-bytes _ _ _ _ _ (stated (tested .before)) (tested .if4 .left) (c .if6 .taken)
 
 returns-7 : tie.Need-returns-7
 returns-7 c =
-    let c2 = c .before .before in
-    let c6 = c2 .before .before .before .before in
+    let tested = c .before .before in
+    let sized = tested .before .before .before .before in
     let size = le-antisymm (c .if6 .left) (c .before .if5 .left) in
-    laws.whole-record _ _ _ _ _ (stated (c2 .before)) (c2 .if4 .left) size _ (c6 .places .ensures)
+    laws.whole-record _ _ _ _ _ (stated (tested .before)) (tested .if4 .left) size _ (sized .places .ensures)
 
 pub open-record-spec : {M : Type 1} → statement M
 open-record-spec =

@@ -10,8 +10,8 @@ opened : (c : tie.After-known-told) →
     (let h = c .before .hours .given .0 in
     laws.Opened (c .before .before .before .before .before .before .args .bytes .now) (h .0) (h .1 .0))
 opened c =
-    let c1 = c .before in
-    laws.opened _ _ _ (sym (c1 .hours .given .1) ∙ c1 .before .before .open-record .ensures)
+    let after-hours = c .before in
+    laws.opened _ _ _ (sym (after-hours .hours .given .1) ∙ after-hours .before .before .open-record .ensures)
 
 -- What is lent as bytes are bytes.
 lent-bytes : (c : tie.After-open-record) → Bytes (c .before .before .before .args .bytes .now)
@@ -43,7 +43,8 @@ returns : tie.Need-returns
 returns c =
     let read = c .before .before .before in
     let counted = read .before .before .before .before .before in
-    laws.parts-read _ _ _ (opened counted) _ _ (lent-bytes (counted .before .before .before)) (read .read-parts .ensures)
+    laws.parts-read _ _ _ (opened counted) _ _ (lent-bytes (counted .before .before .before))
+    (read .read-parts .ensures)
 
 returns-2 : tie.Need-returns-2
 returns-2 c =

@@ -7,9 +7,10 @@ use Rattle.sagivelume.proofs.sagivelume_join.Tie as tie
 
 returns : tie.Need-returns
 returns c =
-    let c2 = c .before .before in
+    let taken-in = c .before .before in
     c .of-answer .ensures
-    ∙ ap answerTold (c .before .join .ensures ∙ ap₂ joined (c2 .before .answer-in .ensures) (c2 .answer-in2 .ensures))
+    ∙ ap answerTold (c .before .join .ensures ∙ ap₂ joined (taken-in .before .answer-in .ensures)
+    (taken-in .answer-in2 .ensures))
 
 pub sagivelume-join-spec : {M : Type 1} → statement M
 sagivelume-join-spec =

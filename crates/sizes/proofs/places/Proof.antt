@@ -1,5 +1,5 @@
 -- `places` answers 2 for two hours or fewer; of more, n − 1 has l bits, and P is 1 shifted left by l. Assumes nothing.
-use Rattle.kit.proofs.{_≡_, ap, _∙_, ℕ, _-_, _^_, arith, needs}
+use Rattle.kit.proofs.{_≡_, _-_, arith, needs}
 use lib.Count.{leadingZeros, leading-le}
 use Rattle.om3.specs.Document.{levels}
 use Rattle.om3.proofs.Levels.{levels-most}

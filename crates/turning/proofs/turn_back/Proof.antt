@@ -72,8 +72,8 @@ examine-requires c κs =
 
 returns-4 : tie.Need-returns-4
 returns-4 c =
-    let c3 = c .before .before .before in
-    laws.unsound-refused _ _ _ _ (fits (c3 .before)) _ (c3 .examine .ensures) _ (c .before .i .given .1)
+    let examined = c .before .before .before in
+    laws.unsound-refused _ _ _ _ (fits (examined .before)) _ (examined .examine .ensures) _ (c .before .i .given .1)
 
 shared-slice-copy-out-root-range : tie.Need-shared-slice-copy-out-root-range
 shared-slice-copy-out-root-range c =
@@ -91,8 +91,8 @@ shared-slice-copy-out-root-range-2 c =
 
 slice-aggregate-write-below : tie.Need-slice-aggregate-write-below
 slice-aggregate-write-below c =
-    let c10 = c .before .before .before .before .before .before .before .before .before .before in
-    sym (length-take-le _ _ (c10 .if3 .left))
+    let tested = c .before .before .before .before .before .before .before .before .before .before in
+    sym (length-take-le _ _ (tested .if3 .left))
 
 write-below-requires : tie.Need-write-below-requires
 write-below-requires c κs =
@@ -111,22 +111,24 @@ write-below-requires c κs =
 returns-5 : tie.Need-returns-5
 returns-5 c =
     let c6 = c .before .before .before .before .before .before in
-    let c9 = c6 .before .before .before in
-    let c11 = c9 .before .before in
-    let c15 = c11 .before .before .before .before in
+    let sorted = c6 .before .before .before in
+    let examined = sorted .before .before in
+    let sized = examined .before .before .before .before in
     let r = root-told c6 (c .before .before .before .before .range .given .1) in
-    laws.hours-written _ _ _ _ (fits (c11 .before)) _ (c11 .examine .ensures) (c9 .enum-told .given .1) _ r _
-    (c15 .places .ensures) _ (c .before .write-below .ensures)
+    laws.hours-written _ _ _ _ (fits (examined .before)) _ (examined .examine .ensures) (sorted .enum-told .given .1) _
+    r _
+    (sized .places .ensures) _ (c .before .write-below .ensures)
 
 returns-6 : tie.Need-returns-6
 returns-6 c =
     let c2 = c .before .before in
-    let c5 = c2 .before .before .before in
-    let c7 = c5 .before .before in
-    let out = start (c7 .before) .args .hours .now in
+    let sorted = c2 .before .before .before in
+    let examined = sorted .before .before in
+    let out = start (examined .before) .args .hours .now in
     let r = root-told c2 (c .enum-told2 .given .1) in
     absurd
-    (laws.root-not-unsound _ _ _ out (fits (c7 .before)) _ (c7 .examine .ensures) (c5 .enum-told .given .1) r)
+    (laws.root-not-unsound _ _ _ out (fits (examined .before)) _ (examined .examine .ensures)
+    (sorted .enum-told .given .1) r)
 
 pub turn-back-spec : {M : Type 1} → statement M
 turn-back-spec =

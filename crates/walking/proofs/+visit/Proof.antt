@@ -54,9 +54,9 @@ split t c = rw (c .first .given .1) at (c .before .before .narrow .ensures)
 
 -- The left half was visited through.
 left-seen : (t : ℕ) (c : lts.After-left (callees t) (at t) own.Post) →
-    (let c4 = c .before .before .before .before in
-    let a = c4 .before .before .before .before .args in
-    let e = c4 .first .given .0 in
+    (let after-first = c .before .before .before .before in
+    let a = after-first .before .before .before .before .args in
+    let e = after-first .first .given .0 in
     VisitedFrom (a .n) (a .coefficients .now) (a .codes .now) (a .x) (a .stop) (e .1 .1 .0) (e .0)
     (Visited.Through (c .left .given .0 .0)))
 left-seen t c = rw (c .left .given .1) at (c .before .before .visit .ensures)
@@ -78,9 +78,9 @@ visit-requires t c κs =
 
 returns : (t : ℕ) → lts.Need-returns (callees t) (at t) own.Post
 returns t c =
-    let c2 = c .before .before in
+    let visited = c .before .before in
     let told = c .enum-told .given .1 in
-    rw told (split t (c2 .before .before) .left-unsound _ (rw told at (c2 .visit .ensures)))
+    rw told (split t (visited .before .before) .left-unsound _ (rw told at (visited .visit .ensures)))
 
 visit-requires-2 : (t : ℕ) → lts.Need-visit-requires-2 (callees t) (at t) own.Post
 visit-requires-2 t c κs =
@@ -92,12 +92,12 @@ visit-requires-2 t c κs =
 
 returns-2 : (t : ℕ) → lts.Need-returns-2 (callees t) (at t) own.Post
 returns-2 t c =
-    let c2 = c .before .before in
-    let c4 = c2 .before .before in
+    let visited = c .before .before in
+    let c4 = visited .before .before in
     let told = c .enum-told2 .given .1 in
     rw told
     (split t (c4 .before .before .before .before) .right-unsound _ (left-seen t c4) _
-    (rw told at (c2 .visit2 .ensures)))
+    (rw told at (visited .visit2 .ensures)))
 
 returns-3 : (t : ℕ) → lts.Need-returns-3 (callees t) (at t) own.Post
 returns-3 t c = rw (c .before .i .given .1) at (c .before .before .before .narrow .ensures)
@@ -109,9 +109,9 @@ returns-4 t c =
 
 returns-5 : (t : ℕ) → lts.Need-returns-5 (callees t) (at t) own.Post
 returns-5 t c =
-    let c2 = c .before .before in
-    let c6 = c2 .before .before .before .before in
-    let right = rw (c2 .right .given .1) at (c2 .before .before .visit2 .ensures) in
+    let after-right = c .before .before in
+    let c6 = after-right .before .before .before .before in
+    let right = rw (after-right .right .given .1) at (after-right .before .before .visit2 .ensures) in
     rw (c .both-seen .ensures) (split t (c6 .before .before .before .before) .both-seen _ (left-seen t c6) _ right)
 
 pub +visit-spec : {M : Type 1} → statement M

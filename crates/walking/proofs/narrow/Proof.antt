@@ -73,8 +73,8 @@ halves : (c : tie.After-right-half Inv-loop μ-loop) →
     let parts = c .before .before .before .halves .given .0 in
     SteppedDown (a .n) (a .coefficients .now) (a .codes .now) (here .loop .at) (Halves.Sound (parts .0) (parts .1 .0)))
 halves c =
-    let c3 = c .before .before .before in
-    rw (c3 .halves .given .1) at (stepped (c3 .before .before))
+    let after-halves = c .before .before .before in
+    rw (after-halves .halves .given .1) at (stepped (after-halves .before .before))
 
 loop-holds : tie.Need-loop-holds Inv-loop μ-loop
 loop-holds c =
@@ -120,25 +120,26 @@ touches-requires-2 c κs =
 
 returns-2 : tie.Need-returns-2 Inv-loop μ-loop
 returns-2 c =
-    let c4 = c .before .before .before .before in
-    let then = opened-at c4 in
+    let halved = c .before .before .before .before in
+    let then = opened-at halved in
     let here = then .before .before in
-    rw (c4 .right-half .ensures, c4 .before .left-half .ensures)
-    (laws.splits _ _ _ _ _ _ _ _ _ (came here) (opens then) (two-hours then) _ _ (halves c4))
+    rw (halved .right-half .ensures, halved .before .left-half .ensures)
+    (laws.splits _ _ _ _ _ _ _ _ _ (came here) (opens then) (two-hours then) _ _ (halves halved))
 
 loop-less : tie.Need-loop-less Inv-loop μ-loop
 loop-less c =
-    let c4 = c .before .before .before .before in
-    rw (c4 .right-half .ensures) (omega (arith, two-hours (opened-at c4)))
+    let halved = c .before .before .before .before in
+    rw (halved .right-half .ensures) (omega (arith, two-hours (opened-at halved)))
 
 loop-again : tie.Need-loop-again Inv-loop μ-loop
 loop-again c =
-    let c4 = c .before .before .before .before in
-    let then = opened-at c4 in
+    let halved = c .before .before .before .before in
+    let then = opened-at halved in
     let apart = sym (c .before .touches2 .ensures) ∙ c .if3 .left in
-    rw (c4 .right-half .ensures)
-    (laws.goes-right _ _ _ _ _ _ _ _ _ (then .before .before .loop .inv) (opens then) (two-hours then) _ _ (halves c4)
-    (rw (c4 .before .left-half .ensures) at apart))
+    rw (halved .right-half .ensures)
+    (laws.goes-right _ _ _ _ _ _ _ _ _ (then .before .before .loop .inv) (opens then) (two-hours then) _ _
+    (halves halved)
+    (rw (halved .before .left-half .ensures) at apart))
 
 loop-less-2 : tie.Need-loop-less-2 Inv-loop μ-loop
 loop-less-2 c =
@@ -147,12 +148,13 @@ loop-less-2 c =
 
 loop-again-2 : tie.Need-loop-again-2 Inv-loop μ-loop
 loop-again-2 c =
-    let c2 = c .before .before in
-    let then = opened-at c2 in
+    let halved = c .before .before in
+    let then = opened-at halved in
     let apart = sym (c .before .touches .ensures) ∙ c .if2 .left in
-    rw (c2 .before .left-half .ensures)
-    (laws.goes-left _ _ _ _ _ _ _ _ _ (then .before .before .loop .inv) (opens then) (two-hours then) _ _ (halves c2)
-    (rw (c2 .right-half .ensures) at apart))
+    rw (halved .before .left-half .ensures)
+    (laws.goes-left _ _ _ _ _ _ _ _ _ (then .before .before .loop .inv) (opens then) (two-hours then) _ _
+    (halves halved)
+    (rw (halved .right-half .ensures) at apart))
 
 returns-3 : tie.Need-returns-3 Inv-loop μ-loop
 returns-3 c =

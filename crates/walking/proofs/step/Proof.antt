@@ -43,13 +43,13 @@ half-ranges-requires c κs = c .before .before .before .before .before .pre .rea
 
 returns-2 : tie.Need-returns-2
 returns-2 c w two told =
-    let c5 = c .before .before .before .before in
-    let start = c5 .before .before in
+    let tested = c .before .before .before .before in
+    let start = tested .before .before in
     let cs = start .args .coefficients .now in
     let i = start .args .i .0 in
     let d = reads-back (getD cs (2 * i) (pos 0)) (c .before .before .half-ranges-arg .given) in
     let e = reads-back (getD cs (2 * i + 1) (pos 0)) (c .before .half-ranges-arg2 .given) in
-    laws.details-stepped _ _ _ _ _ w _ (ltb-false w 4 (sym told ∙ c5 .if1 .left)) (start .pre .readings) _
+    laws.details-stepped _ _ _ _ _ w _ (ltb-false w 4 (sym told ∙ tested .if1 .left)) (start .pre .readings) _
     (rw (d, e) at (c .half-ranges .ensures))
 
 pub step-spec : {M : Type 1} → statement M

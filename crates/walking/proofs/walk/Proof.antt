@@ -99,11 +99,11 @@ loop-again-2 c =
 
 returns-2 : tie.Need-returns-2 Inv-loop μ-loop
 returns-2 c =
-    let c2 = c .before .before in
-    let here = c2 .before .before in
+    let tested = c .before .before in
+    let here = tested .before .before in
     let l = c .low-of in
     rw (reads-back (l .result) (l .ok), l .ensures)
-    (here .loop .inv .rest _ (laws.hour-came _ _ _ _ _ _ (here .loop .inv .below) (c2 .if1 .left)))
+    (here .loop .inv .rest _ (laws.hour-came _ _ _ _ _ _ (here .loop .inv .below) (tested .if1 .left)))
 
 pub walk-spec : {M : Type 1} → statement M
 walk-spec =

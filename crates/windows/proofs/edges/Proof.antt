@@ -16,9 +16,9 @@ column-of-requires c κs = good-some _ (sym (c .before .bad-hours .ensures) ∙ 
 
 returns-2 : tie.Need-returns-2
 returns-2 c =
-    let c2 = c .before .before in
-    let a = c2 .before .args in
-    let good = sym (c2 .bad-hours .ensures) ∙ c .before .if1 .left in
+    let timed = c .before .before in
+    let a = timed .before .args in
+    let good = sym (timed .bad-hours .ensures) ∙ c .before .if1 .left in
     laws.edges-window (a .n) (a .a .0) (a .b .0) (a .w) (a .k) good _ (c .column-of .ensures)
 
 pub edges-spec : {M : Type 1} → statement M

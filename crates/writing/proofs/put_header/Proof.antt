@@ -6,25 +6,27 @@ use Rattle.writing.proofs.put_header.Tie as tie
 
 part-put-number-end-2 : tie.Need-part-put-number-end-2
 part-put-number-end-2 c =
-    let c2 = c .before .before in
-    let start = c2 .before .before .before in
+    let numbered = c .before .before in
+    let start = numbered .before .before .before in
     let a = start .args in
-    omega (arith, laws.begun-room (a .stated) (a .n) (a .bytes .now) (start .pre) _ (c2 .put-number .ensures))
+    omega (arith, laws.begun-room (a .stated) (a .n) (a .bytes .now) (start .pre) _ (numbered .put-number .ensures))
 
 same-length : tie.Need-same-length
 same-length c =
-    let c2 = c .before .before in
-    let c6 = c2 .before .before .before .before in
-    let start = c6 .before .before .before in
+    let numbered = c .before .before in
+    let when-numbered = numbered .before .before .before .before in
+    let start = when-numbered .before .before .before in
     let a = start .args in
-    let put = laws.header-put _ _ _ (start .pre) _ (c6 .put-number .ensures) _ (c2 .put-number2 .ensures) in
+    let put = laws.header-put _ _ _ (start .pre) _ (when-numbered .put-number .ensures) _
+    (numbered .put-number2 .ensures) in
     ap length put ∙ laws.header-kept (a .stated) (a .n) (a .bytes .now) (start .pre)
 
 returns : tie.Need-returns
 returns c =
-    let c2 = c .before .before in
-    let c6 = c2 .before .before .before .before in
-    laws.header-put _ _ _ (c6 .before .before .before .pre) _ (c6 .put-number .ensures) _ (c2 .put-number2 .ensures)
+    let numbered = c .before .before in
+    let when-numbered = numbered .before .before .before .before in
+    laws.header-put _ _ _ (when-numbered .before .before .before .pre) _ (when-numbered .put-number .ensures) _
+    (numbered .put-number2 .ensures)
 
 pub put-header-spec : {M : Type 1} → statement M
 put-header-spec =

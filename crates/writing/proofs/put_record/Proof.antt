@@ -12,13 +12,13 @@ record-size-requires c κs =
 
 returns : tie.Need-returns
 returns c =
-    let c2 = c .before .before in
-    let c6 = c2 .before .before .before .before in
-    let c10 = c6 .before .before .before .before in
-    let c12 = c10 .before .before in
-    let start = c12 .before .before .before in
-    laws.record-put _ _ _ _ (start .pre) _ (c12 .record-size .ensures) _ (c10 .put-header .ensures) _
-    (c6 .pack .ensures) _ (c2 .copy .ensures .1)
+    let after-copy = c .before .before in
+    let after-pack = after-copy .before .before .before .before in
+    let headed = after-pack .before .before .before .before in
+    let measured = headed .before .before in
+    let start = measured .before .before .before in
+    laws.record-put _ _ _ _ (start .pre) _ (measured .record-size .ensures) _ (headed .put-header .ensures) _
+    (after-pack .pack .ensures) _ (after-copy .copy .ensures .1)
 
 pub put-record-spec : {M : Type 1} → statement M
 put-record-spec =

@@ -64,8 +64,8 @@ returns-2 c =
 
 record-size-requires : tie.Need-record-size-requires
 record-size-requires c κs =
-    let c2 = c .before .before in
-    rw (c2 .places .ensures) (P-most (startOf (c2 .before) .args .n))
+    let sized = c .before .before in
+    rw (sized .places .ensures) (P-most (startOf (sized .before) .args .n))
 
 returns-3 : tie.Need-returns-3
 returns-3 c =
@@ -81,8 +81,8 @@ examine-requires c κs =
 
 returns-4 : tie.Need-returns-4
 returns-4 c =
-    let c3 = c .before .before .before in
-    laws.unsound-refused _ _ _ _ (fits (c3 .before)) _ (c3 .examine .ensures) _ (c .before .i .given .1)
+    let examined = c .before .before .before in
+    laws.unsound-refused _ _ _ _ (fits (examined .before)) _ (examined .examine .ensures) _ (c .before .i .given .1)
 
 slice-aggregate-put-record : tie.Need-slice-aggregate-put-record
 slice-aggregate-put-record c =
@@ -96,21 +96,23 @@ slice-aggregate-put-record-2 c =
 
 put-record-requires : tie.Need-put-record-requires
 put-record-requires c κs =
-    let c3 = c .before .before .before in
-    let c5 = c3 .before .before in
-    let c10 = c5 .before .before .before .before .before in
-    let a = startOf (c10 .before) .args in
-    laws.ready _ _ _ (a .bytes .now) (fits (c5 .before)) _ (c5 .examine .ensures) (c3 .enum-told .given .1) _
-    (c10 .places .ensures)
+    let sorted = c .before .before .before in
+    let examined = sorted .before .before in
+    let sized = examined .before .before .before .before .before in
+    let a = startOf (sized .before) .args in
+    laws.ready _ _ _ (a .bytes .now) (fits (examined .before)) _ (examined .examine .ensures)
+    (sorted .enum-told .given .1) _
+    (sized .places .ensures)
 
 returns-5 : tie.Need-returns-5
 returns-5 c =
-    let c2 = c .before .before in
-    let c6 = c2 .before .before .before .before in
-    let c8 = c6 .before .before in
-    let c10 = c8 .before .before in
-    laws.record-written _ _ _ _ (fits (c8 .before)) _ (c8 .examine .ensures) (c6 .enum-told .given .1) _
-    (c10 .before .before .before .places .ensures) _ (c10 .record-size .ensures) _ (c2 .put-record .ensures)
+    let recorded = c .before .before in
+    let sorted = recorded .before .before .before .before in
+    let examined = sorted .before .before in
+    let measured = examined .before .before in
+    laws.record-written _ _ _ _ (fits (examined .before)) _ (examined .examine .ensures) (sorted .enum-told .given .1) _
+    (measured .before .before .before .places .ensures) _ (measured .record-size .ensures) _
+    (recorded .put-record .ensures)
 
 pub write-record-spec : {M : Type 1} → statement M
 write-record-spec =

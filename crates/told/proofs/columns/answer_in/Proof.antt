@@ -9,11 +9,11 @@ returns c = rw (eq-eqb _ _ (c .if1 .taken))
 
 returns-2 : tie.Need-returns-2
 returns-2 c =
-    let c2 = c .before .before in
-    let t = c2 .before .before .before .args .t in
-    let held = c2 .struct-told .given .1 .1 .1 in
+    let after-struct-told = c .before .before in
+    let t = after-struct-told .before .before .before .args .t in
+    let held = after-struct-told .struct-told .given .1 .1 .1 in
     rw (
-      ne-eqb _ _ (c2 .before .if1 .left),
+      ne-eqb _ _ (after-struct-told .before .if1 .left),
       reads-back (t .first) (held .0 .1),
       reads-back (t .last) (held .1 .0 .1),
       reads-back (t .low) (held .1 .1 .0 .1),

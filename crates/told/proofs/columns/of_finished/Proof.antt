@@ -8,11 +8,11 @@ returns c = rw (c .before .before .f .given .1, c .of-answer .ensures)
 
 returns-2 : tie.Need-returns-2
 returns-2 c =
-    let c2 = c .before in
+    let after-place-of = c .before in
     rw (
-      c2 .before .before .before .f2 .given .1,
-      c2 .before .number-of .ensures,
-      c2 .place-of .ensures,
+      after-place-of .before .before .before .f2 .given .1,
+      after-place-of .before .number-of .ensures,
+      after-place-of .place-of .ensures,
       c .of-answer2 .ensures,
     )
 

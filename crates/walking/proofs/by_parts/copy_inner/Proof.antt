@@ -5,12 +5,12 @@ use Rattle.walking.proofs.by_parts.copy_inner.Tie as tie
 
 returns-2 : tie.Need-returns-2
 returns-2 c =
-    let c2 = c .before .before in
+    let after-copy-range = c .before .before in
     rw (
       c .copy-node2 .ensures,
       c .before .copy-node .ensures,
-      c2 .copy-range .ensures,
-      c2 .before .before .inner .given .1,
+      after-copy-range .copy-range .ensures,
+      after-copy-range .before .before .inner .given .1,
     )
 
 pub copy-inner-spec : {M : Type 1} → statement M

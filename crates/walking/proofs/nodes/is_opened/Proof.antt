@@ -5,16 +5,16 @@ use Rattle.walking.proofs.nodes.is_opened.Tie as tie
 
 returns : tie.Need-returns
 returns c =
-    let c2 = c .before .before in
+    let tested = c .before .before in
     let in-column = sym (c .before .is-inside .ensures) ∙ c .if2 .taken in
-    rw (sym (c2 .before .touches .ensures) ∙ c2 .if1 .taken, in-column)
+    rw (sym (tested .before .touches .ensures) ∙ tested .if1 .taken, in-column)
 
 returns-2 : tie.Need-returns-2
 returns-2 c =
-    let c2 = c .before in
-    let c3 = c2 .before .before in
-    let partly = sym (c2 .before .is-inside .ensures) ∙ c2 .if2 .left in
-    rw (sym (c3 .before .touches .ensures) ∙ c3 .if1 .taken, partly)
+    let tested = c .before in
+    let when-tested = tested .before .before in
+    let partly = sym (tested .before .is-inside .ensures) ∙ tested .if2 .left in
+    rw (sym (when-tested .before .touches .ensures) ∙ when-tested .if1 .taken, partly)
 
 returns-3 : tie.Need-returns-3
 returns-3 c = rw (sym (c .before .touches .ensures) ∙ c .if1 .left)

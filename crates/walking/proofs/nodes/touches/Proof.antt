@@ -5,9 +5,9 @@ use Rattle.walking.proofs.nodes.touches.Tie as tie
 
 returns-2 : tie.Need-returns-2
 returns-2 c =
-    let c2 = c .before .before in
-    let c4 = c2 .before .before in
-    rw (c4 .enum-told2 .given .1, lt-ltb _ _ (c2 .if1 .taken))
+    let tested = c .before .before in
+    let sorted = tested .before .before in
+    rw (sorted .enum-told2 .given .1, lt-ltb _ _ (tested .if1 .taken))
 
 returns-3 : tie.Need-returns-3
 returns-3 c = rw (c .before .before .enum-told2 .given .1, le-ltb _ _ (c .if1 .left))

@@ -5,15 +5,15 @@ use Rattle.walking.proofs.sight.unopened.Tie as tie
 
 returns : tie.Need-returns
 returns c =
-    let c2 = c .before .before in
+    let tested = c .before .before in
     let in-column = sym (c .before .is-inside .ensures) ∙ c .if2 .taken in
-    rw (sym (c2 .before .touches .ensures) ∙ c2 .if1 .taken, in-column)
+    rw (sym (tested .before .touches .ensures) ∙ tested .if1 .taken, in-column)
 
 returns-2 : tie.Need-returns-2
 returns-2 c =
-    let c2 = c .before .before in
+    let tested = c .before .before in
     let partly = sym (c .before .is-inside .ensures) ∙ c .if2 .left in
-    rw (sym (c2 .before .touches .ensures) ∙ c2 .if1 .taken, partly)
+    rw (sym (tested .before .touches .ensures) ∙ tested .if1 .taken, partly)
 
 returns-3 : tie.Need-returns-3
 returns-3 c = rw (sym (c .before .touches .ensures) ∙ c .if1 .left)
