@@ -124,3 +124,12 @@ module _ (n : ℕ) (s cs : List ℤ) (ks : List ℕ) (series : Series n s) (has 
         ap (λ (u : ToldRanges). u .«inner_high») e,
         ap (λ (u : ToldRanges). u .count) e,
       )
+
+-- A column of a table that was made and is lent again.
+module _ (n : ℕ) (s cs cs′ : List ℤ) (ks ks′ : List ℕ) (r : Told)
+    (done : Tells (Made n s cs ks cs′ ks′) takingTold r) (zero : r .number ≡ 0) where
+  pub made-again : (cs₁ : List ℤ) (ks₁ : List ℕ) → cs₁ ≡ cs′ → ks₁ ≡ ks′
+      → Series n (take n s) × HasTable n (take n s) (lent cs₁ ks₁)
+  made-again cs₁ ks₁ same-cs same-ks =
+      let has = make-has n s cs cs′ ks ks′ r done zero in
+      (has .0, rw (same-cs, same-ks) (has .1))

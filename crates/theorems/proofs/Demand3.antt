@@ -2,8 +2,9 @@
 -- boundary as they are shipped. A call has lifetimes κs, its arguments, an answer r and its parameters e as it
 -- leaves them; `now` is what a lent buffer holds. That a table has a series is what making leaves (make-has,
 -- Demand2). Assumes nothing.
-use Rattle.kit.proofs.{_≡_, false, true, map, List, ℕ, _-_, _*_, _≤_, ℤ}
+use Rattle.kit.proofs.{_≡_, false, true, map, List, ℕ, _-_, _*_, _≤_, ℤ, take}
 use denote.Ref.{RefT, now}
+use Rattle.kit.specs.Calls.{third, fourth}
 use Rattle.words.specs.{lowOf, highOf}
 use Rattle.words.specs.declared.{Timestamp.Timestamp, Column.Column}
 use Rattle.om3.specs.Document.{Series, levels, hourOf, isGap, Table, HasTable, lent, look, column}
@@ -75,3 +76,18 @@ module _ (n : ℕ) (s : List ℤ) (coefficients : RefT (List ℤ)) (codes : RefT
   -- The count is at most 1 at depth 0, and at most 4·d − 1 at any other depth d.
   stopped-count : (countAt l t x 0 ≤ 1) × ((d : ℕ) → 1 ≤ d → d ≤ l → countAt l t x d ≤ 4 * d - 1)
   stopped-count = (ranged .at-root, ranged .most)
+
+-- So it is after making, whenever the buffers that it left are lent: a finished column tells the look through the hours
+-- of the readings that were made into the table.
+module _ (κs : _) (n : _) (readings : _) (coefficients : _) (codes : _) (m : _) (e : _)
+    (made : boundary.MakePromises κs n readings coefficients codes m e) (zero : m .number ≡ 0) where
+  finished-after-make : (κs′ : _) (coefficients′ : _) (codes′ : _) (a : _) (b : _) (w : _) (k : _) (r : _) (e′ : _)
+      → boundary.FinishedPromises κs′ n coefficients′ codes′ a b w k r e′
+      → now coefficients′ ≡ now (third e) → now codes′ ≡ now (fourth e) → Drawn n a b w k
+      → (let x = column a b w k in
+      (r .number ≡ 0) × (r .place ≡ 0)
+      × (r .answer ≡ answerTold (lookThrough n (take n (now readings)) (columnHours x)))
+      × (r .count ≡ count (levels n) (lent (now coefficients′) (now codes′)) x))
+  finished-after-make κs′ coefficients′ codes′ a b w k r e′ asked same-coefficients same-codes drawn =
+      let again = told.made-again n (now readings) _ _ _ _ m made zero _ _ same-coefficients same-codes in
+      told.finished-fields n _ _ _ (again .0) (again .1) a b w k drawn r asked
