@@ -24,18 +24,18 @@ came-last c = rw (c .latest .given .1) at (c .before .before .walk2 .ensures)
 
 add-walked : tie.Need-add-walked
 add-walked c =
-    let walked-both = c .before .before .before .before .before in
-    let start = walked-both .before .before .before .before in
-    omega (arith, came-first walked-both .few _ _ refl, ends-within (start .pre .0 .0), start .pre .1)
+    let first-walked = c .before .before .before .before .before in
+    let start = first-walked .before .before .before .before in
+    omega (arith, came-first first-walked .few _ _ refl, ends-within (start .pre .0 .0), start .pre .1)
 
 add-walked-2 : tie.Need-add-walked-2
 add-walked-2 c =
-    let walked-both = c .before in
-    let first-walked = walked-both .before .before .before .before in
+    let last-walked = c .before in
+    let first-walked = last-walked .before .before .before .before in
     let start = first-walked .before .before .before .before in
     let first = ends-within (start .pre .0 .0) in
     let last = ends-within (start .pre .0 .1) in
-    omega (arith, came-first first-walked .few _ _ refl, came-last walked-both .few _ _ refl, start .pre .1)
+    omega (arith, came-first first-walked .few _ _ refl, came-last last-walked .few _ _ refl, start .pre .1)
 
 returns : tie.Need-returns
 returns c =
@@ -51,12 +51,12 @@ returns-2 c =
 
 returns-3 : tie.Need-returns-3
 returns-3 c =
-    let c3 = c .before .before .before in
-    let c7 = c3 .before .before .before .before in
+    let last-walked = c .before .before .before in
+    let first-walked = last-walked .before .before .before .before in
     let l = c .before .low-of in
     let h = c .high-of in
     rw (reads-back (l .result) (l .ok), reads-back (h .result) (h .ok), l .ensures, h .ensures)
-    (laws.both-came _ _ _ _ _ _ _ _ _ (came-first c7) _ _ (came-last c3))
+    (laws.both-came _ _ _ _ _ _ _ _ _ (came-first first-walked) _ _ (came-last last-walked))
 
 pub found-spec : {M : Type 1} → statement M
 found-spec =
