@@ -33,11 +33,11 @@ count-of-requires c κs =
 
 found-requires : tie.Need-found-requires
 found-requires c κs =
-    let c5 = c .before .before .before .before .before in
-    let else = hour-at c5 in
+    let seen = c .before .before .before .before .before in
+    let else = hour-at seen in
     let start = else .before .before .before in
     let e = c .before .nodes .given .1 in
-    let t = through c5 in
+    let t = through seen in
     let some = else .if1 .left in
     let count = c .before .before .before .count-of .ensures in
     (laws.nodes-below _ _ _ _ some _ t _ _ _ e, omega (arith, t .few _ refl, P-most (start .args .n), count))

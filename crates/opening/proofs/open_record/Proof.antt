@@ -22,9 +22,9 @@ good : (c : tie.Else3) → badHours (c .before .before .number-from .result) ≡
 good c = sym (c .before .bad-hours .ensures) ∙ c .if3 .left
 
 stated : (c : tie.After-number-from2) →
-    (let c6 = c .before .before .before .before .before .before in
-    let r = c6 .before .before .before .before .before .before .args .bytes .now in
-    laws.Stated r _ (header c6) (c .before .before .record-size .result) (c .number-from2 .result))
+    (let counted = c .before .before .before .before .before .before in
+    let r = counted .before .before .before .before .before .before .args .bytes .now in
+    laws.Stated r _ (header counted) (c .before .before .record-size .result) (c .number-from2 .result))
 stated c =
     let sized = c .before .before .before in
     record {

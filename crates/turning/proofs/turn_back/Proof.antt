@@ -96,12 +96,12 @@ slice-aggregate-write-below c =
 
 write-below-requires : tie.Need-write-below-requires
 write-below-requires c κs =
-    let c4 = c .before .before .before .before in
-    let c9 = c4 .before .before .before .before .before in
-    let a = start (c9 .before) .args in
-    let r = root-told c4 (c .before .before .range .given .1) in
-    let e = c9 .before .before .before .before .places .ensures in
-    let f = fits (c9 .before) in
+    let rooted = c .before .before .before .before in
+    let examined = rooted .before .before .before .before .before in
+    let a = start (examined .before) .args in
+    let r = root-told rooted (c .before .before .range .given .1) in
+    let e = examined .before .before .before .before .places .ensures in
+    let f = fits (examined .before) in
     let z = 2≤P (a .n) in
     let h = P-even (a .n) in
     let w = f .table .coefficients in
@@ -110,22 +110,22 @@ write-below-requires c κs =
 
 returns-5 : tie.Need-returns-5
 returns-5 c =
-    let c6 = c .before .before .before .before .before .before in
-    let sorted = c6 .before .before .before in
+    let rooted = c .before .before .before .before .before .before in
+    let sorted = rooted .before .before .before in
     let examined = sorted .before .before in
     let sized = examined .before .before .before .before in
-    let r = root-told c6 (c .before .before .before .before .range .given .1) in
+    let r = root-told rooted (c .before .before .before .before .range .given .1) in
     laws.hours-written _ _ _ _ (fits (examined .before)) _ (examined .examine .ensures) (sorted .enum-told .given .1) _
     r _
     (sized .places .ensures) _ (c .before .write-below .ensures)
 
 returns-6 : tie.Need-returns-6
 returns-6 c =
-    let c2 = c .before .before in
-    let sorted = c2 .before .before .before in
+    let rooted = c .before .before in
+    let sorted = rooted .before .before .before in
     let examined = sorted .before .before in
     let out = start (examined .before) .args .hours .now in
-    let r = root-told c2 (c .enum-told2 .given .1) in
+    let r = root-told rooted (c .enum-told2 .given .1) in
     absurd
     (laws.root-not-unsound _ _ _ out (fits (examined .before)) _ (examined .examine .ensures)
     (sorted .enum-told .given .1) r)

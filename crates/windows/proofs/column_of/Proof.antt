@@ -32,10 +32,10 @@ returns c =
 
 returns-2 : tie.Need-returns-2
 returns-2 c =
-    let c2 = c .before .before in
-    let a = c2 .before .before .args in
+    let tested = c .before .before in
+    let a = tested .before .before .args in
     let none = sym (c .before .bad-column .ensures) ∙ c .if2 .taken in
-    laws.bad-column (a .n) (a .a .0) (a .b .0) (a .w) (a .k) (within c2) none
+    laws.bad-column (a .n) (a .a .0) (a .b .0) (a .w) (a .k) (within tested) none
 
 edge-requires : tie.Need-edge-requires
 edge-requires c κs = both-edged c .0
@@ -50,9 +50,9 @@ edge-requires-2 c κs = both-edged (c .before) .1
 
 returns-3 : tie.Need-returns-3
 returns-3 c =
-    let c2 = c .before .before in
-    let a = c2 .before .before .before .before .args in
-    laws.window-hours (a .n) (a .a .0) (a .b .0) (a .w) (a .k) (within (c2 .before .before)) (among c2) _
+    let tested = c .before .before in
+    let a = tested .before .before .before .before .args in
+    laws.window-hours (a .n) (a .a .0) (a .b .0) (a .w) (a .k) (within (tested .before .before)) (among tested) _
     (rw (c .before .edge .ensures, c .edge2 .ensures))
 
 pub column-of-spec : {M : Type 1} → statement M
