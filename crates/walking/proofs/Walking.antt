@@ -1,21 +1,22 @@
 -- What the walk from a node promises, for each way it can go on: the node is a single hour, it is unsound, or it is
 -- sound and the walk goes on with the half that it takes. Assumes nothing.
-use Rattle.kit.proofs.{_≡_, refl, sym, ap, _∙_, true, false, List, _∷_, ⊎-elim, ℕ, suc, _+_, _-_, _≤_, arith, ℤ}
-use Rattle.signed.proofs.{signed}
+use Rattle.kit.proofs.{_≡_, refl, sym, ap, _∙_, Bool, true, false, List, _∷_, ⊎-elim, ℕ, suc, _+_, _-_, _*_, _^_, _≤_}
+use Rattle.kit.proofs.{_<_, arith, w64, Fits, ℤ, mag}
+use Rattle.signed.proofs.{signed, reads-back}
 use Rattle.words.specs.{lowOf, Readings, declared.Range.the-variants.Held, declared.Reading.Reading}
 use Rattle.words.specs.declared.{Column.Column, NodeId.NodeId, Range.Range, Range.the-variants.Empty}
 use Rattle.om3.specs.Document.{Node, number, left, right, Table, lent, reached, inOrder, soundNode, walkNodes, walkEnd}
 use Rattle.om3.specs.Document.{readingAt}
 use Rattle.om3.proofs.{Tests.below-or-not, Nodes.width-half, Nodes.start-hour, Intervals.width-some}
-use Rattle.node.proofs.Located.{above-hours}
+use Rattle.node.proofs.{Located.above-hours, Told.back}
 use Rattle.node.specs.declared.Halves.{Halves}
 use Rattle.examining.proofs.Answers.{Stepped, stepped, not-stepped}
-use Rattle.walking.specs.Nodes.{At, Below, leftReached, rightReached}
-use Rattle.walking.specs.Visiting.{SteppedDown}
+use Rattle.walking.specs.Nodes.{At, Below, isPairOf, leftReached, rightReached}
+use Rattle.walking.specs.Visiting.{Steps, SteppedDown, SteppedFrom}
 use Rattle.walking.specs.declared.{Reached.Reached, Towards.Towards, Walked.Walked}
 use Rattle.walking.specs.Walking.{takesLeft, towards, Walks, Small, WalkedFrom}
 use Rattle.walking.proofs.Touching.{left-at, right-at}
-use Rattle.walking.proofs.Lending.{some-hours, left-below, right-below}
+use Rattle.walking.proofs.Lending.{steps, small-number, some-hours, ends-within, left-below, right-below}
 
 not-came : {i : NodeId} {r : Reading} {m : ℕ} → Walked.Unsound i ≡ Walked.Came r m → ⊥
 not-came e = let z : _≡_ {A = ℕ} 0 1 = cc in omega arith
@@ -162,20 +163,57 @@ module _ (n : ℕ) (cs : List ℤ) (ks : List ℕ) (w : Towards) where
   pub at-start : (start : Reached) → Below 1 cs ks start → CameTo start start 0
   at-start start b = record { below = b; room = omega arith; rest = λ r d. d }
 
-  module _ (start at : Reached) (c : ℕ) (came : CameTo start at c) (two : 2 ≤ at .hours) where
-    module _ (a b : Range) (step : SteppedDown n cs ks at (Halves.Sound a b)) where
-      pub came-left : takesLeft w a b ≡ true → CameTo start (leftReached at a) (c + 1)
-      came-left takes =
-          record {
-            below = left-below (came .below) two a (step .readings a b refl .0);
-            room = omega (arith, came .room);
-            rest = λ r d. came .rest r (goes-left c at two a b step takes r d);
-          }
+  -- From a node that the code has come to.
+  module _ {start at : Reached} {c : ℕ} (came : CameTo start at c) where
+    pub hour-read : at .hours ≤ 1 → {z : ℤ} → mag z < 2 ^ 31 → z ≡ lowOf (at .range)
+        → From 0 start (Walked.Came (record { hour = at .from; grams = back z }) c)
+    hour-read one {z} fits e =
+        came .rest _ (rw (reads-back z fits, e) (hour-came c at (came .below) one))
 
-      pub came-right : takesLeft w a b ≡ false → CameTo start (rightReached at b) (c + 1)
-      came-right takes =
-          record {
-            below = right-below (came .below) two b (step .readings a b refl .1);
-            room = omega (arith, came .room);
-            rest = λ r d. came .rest r (goes-right c at two a b step takes r d);
-          }
+    module _ (two : 2 ≤ at .hours) where
+      pub number-small : 2 * at .id .0 < 2 ^ 63
+      number-small = omega (arith, small-number (came .below))
+
+      pub ends-early : at .from .0 + at .hours < 2 ^ 64
+      ends-early = omega (arith, ends-within (came .below))
+
+      pub counts : Below 1 cs ks start → Fits w64 (c + 1)
+      counts b = omega (arith, came .room, ends-within b)
+
+      pub left-falls : {r : Range} {u : Reached} → u ≡ leftReached at r → u .hours < at .hours
+      left-falls e = rw e (omega arith)
+
+      pub right-falls : {r : Range} {u : Reached} → u ≡ rightReached at r → u .hours < at .hours
+      right-falls e = rw e (omega arith)
+
+      module _ {pair : Bool} (asked : pair ≡ isPairOf (at .hours)) where
+        pub steps-there : Steps cs ks (at .id) (at .from) pair (at .range)
+        steps-there = rw asked (steps (came .below) two two)
+
+        module _ {halves : Halves} (step : SteppedFrom n cs ks (at .id) (at .from) pair (at .range) halves) where
+          pub unsound : halves ≡ Halves.Unsound → From 0 start (Walked.Unsound (at .id))
+          unsound is = came .rest _ (node-unsound c at two (rw is at (step _ two asked)))
+
+          module _ {a b : Range} (is : halves ≡ Halves.Sound a b) {takes : Bool} (told : takes ≡ takesLeft w a b) where
+            abbrev down : SteppedDown n cs ks at (Halves.Sound a b)
+            down = rw is at (step _ two asked)
+
+            pub came-left : {u : Reached} → takes ≡ true → u ≡ leftReached at a → CameTo start u (c + 1)
+            came-left left-taken e =
+                rw e
+                (record {
+                  below = left-below (came .below) two a (down .readings a b refl .0);
+                  room = omega (arith, came .room);
+                  rest = λ r d. came .rest r (goes-left c at two a b down (sym told ∙ left-taken) r d);
+                })
+
+            pub came-right : {u : Reached} → takes ≡ false → u ≡ rightReached at b → CameTo start u (c + 1)
+            came-right right-taken e =
+                rw e
+                (record {
+                  below = right-below (came .below) two b (down .readings a b refl .1);
+                  room = omega (arith, came .room);
+                  rest = λ r d. came .rest r (goes-right c at two a b down (sym told ∙ right-taken) r d);
+                })
+
+pub ruleset walks-on = (number-small, ends-early, counts, left-falls, right-falls, steps-there)
