@@ -1,13 +1,15 @@
 -- The narrowing of a visit: a record of what holds wherever it has come to, and how it goes on from there. A visit from
 -- where it has come to is a visit from its start. Assumes nothing.
-use Rattle.kit.proofs.{_≡_, refl, true, false, not, List, ℕ, _+_, _≤_, _<_, arith, ℤ, ltb-true}
+use Rattle.kit.proofs.{_≡_, refl, sym, _∙_, Bool, true, false, not, List, ℕ, _+_, _*_, _^_, _≤_, _<_, arith, w64, Fits}
+use Rattle.kit.proofs.{ℤ, ltb-true}
 use Rattle.words.specs.{largestHours, Readings, declared.Column.Column, declared.Range.Range}
 use Rattle.om3.proofs.Tests.{and-right}
 use Rattle.node.specs.declared.Halves.{Halves}
-use Rattle.walking.specs.Nodes.{Below, leftReached, rightReached, touchesOf, insideOf, openedOf}
-use Rattle.walking.specs.{Visiting.SteppedDown, Visiting.VisitedFrom, Narrowing.EndsAt, Narrowing.SplitsAt}
+use Rattle.walking.specs.Nodes.{Below, isPairOf, leftReached, rightReached, touchesOf, insideOf, openedOf}
+use Rattle.walking.specs.{Visiting.Steps, Visiting.SteppedDown, Visiting.SteppedFrom, Visiting.VisitedFrom}
+use Rattle.walking.specs.Narrowing.{EndsAt, SplitsAt}
 use Rattle.walking.specs.declared.{Reached.Reached, Visited.Visited}
-use Rattle.walking.proofs.Lending.{left-below, right-below}
+use Rattle.walking.proofs.Lending.{steps, some-hours, small-number, ends-within, left-below, right-below}
 use Rattle.walking.proofs.Visiting as visiting
 
 -- A node that is opened covers more hours than those where the visit stops.
@@ -26,51 +28,131 @@ module _ (n : ℕ) (cs : List ℤ) (ks : List ℕ) (x : Column) (stop c : ℕ) (
   pub at-start : Below stop cs ks start → c + start .hours ≤ largestHours → CameTo start c
   at-start b m = record { below = b; room = m; within = omega arith; rest = λ r w. w }
 
-  pub ends : (at : Reached) (opened : ℕ) → CameTo at opened → openedOf x stop at ≡ false
-      → EndsAt n cs ks x stop c start at opened
-  ends at opened came closed = record { lent = came .below; closed = closed; rest = came .rest }
+-- The node that it has come to is opened and sound, and these are its halves; the start was copied.
+pub record Halved (n : ℕ) (cs : List ℤ) (ks : List ℕ) (x : Column) (stop c : ℕ) (begun start at : Reached) (opened : ℕ)
+    (first second : Reached) : Type 0 where
+  came : CameTo n cs ks x stop c begun at opened
+  copied : begun ≡ start
+  o : openedOf x stop at ≡ true
+  two : 2 ≤ at .hours
+  r : Range
+  q : Range
+  down : SteppedDown n cs ks at (Halves.Sound r q)
+  left-is : first ≡ leftReached at r
+  right-is : second ≡ rightReached at q
 
-  module _ (at : Reached) (opened : ℕ) (came : CameTo at opened) (o : openedOf x stop at ≡ true)
-      (two : 2 ≤ at .hours) where
-    abbrev lent : Below stop cs ks at
-    lent = came .below
+module _ {n : ℕ} {cs : List ℤ} {ks : List ℕ} {x : Column} {stop c : ℕ} {begun start at : Reached} {opened : ℕ}
+    {first second : Reached} (h : Halved n cs ks x stop c begun start at opened first second) where
+  abbrev lent : Below stop cs ks at
+  lent = h .came .below
 
-    pub unsound : SteppedDown n cs ks at Halves.Unsound → VisitedFrom n cs ks x stop c start (Visited.Unsound (at .id))
-    unsound step = came .rest _ (visiting.node-unsound n cs ks x stop opened at o two lent step)
+  abbrev p : Readings (h .r) × Readings (h .q)
+  p = h .down .readings (h .r) (h .q) refl
 
-    module _ (r q : Range) (step : SteppedDown n cs ks at (Halves.Sound r q)) where
-      abbrev p : Readings r × Readings q
-      p = step .readings r q refl
+  pub left-falls : first .hours < at .hours
+  left-falls = rw (h .left-is) (omega (arith, h .two))
 
-      pub goes-left : touchesOf x (rightReached at q) ≡ false → CameTo (leftReached at r) (opened + 1)
-      goes-left apart =
-          record {
-            below = left-below lent two r (p .0);
-            room = omega (arith, came .room);
-            within = omega (arith, came .within);
-            rest = λ z w. came .rest z (visiting.only-first n cs ks x stop opened at o two lent r q step apart z w);
-          }
+  pub right-falls : second .hours < at .hours
+  right-falls = rw (h .right-is) (omega (arith, h .two))
 
-      pub goes-right : touchesOf x (leftReached at r) ≡ false → CameTo (rightReached at q) (opened + 1)
-      goes-right apart =
-          record {
-            below = right-below lent two q (p .1);
-            room = omega (arith, came .room);
-            within = omega (arith, came .within);
-            rest = λ z w. came .rest z (visiting.only-second n cs ks x stop opened at o two lent r q step apart z w);
-          }
+  pub goes-left : {touch : Bool} → touch ≡ touchesOf x second → touch ≡ false
+      → CameTo n cs ks x stop c begun first (opened + 1)
+  goes-left g apart =
+      let far = rw (h .right-is) at (sym g ∙ apart) in
+      rw (h .left-is)
+      (record {
+        below = left-below lent (h .two) (h .r) (p .0);
+        room = omega (arith, h .came .room, h .two);
+        within = omega (arith, h .came .within);
+        rest = λ z w. h .came .rest z
+            (visiting.only-first n cs ks x stop opened at (h .o) (h .two) lent _ _ (h .down) far z w);
+      })
 
-      pub splits : SplitsAt n cs ks x stop c start (leftReached at r) (rightReached at q) (opened + 1)
-      splits =
-          record {
-            before = left-below lent two r (p .0);
-            after = right-below lent two q (p .1);
-            room = omega (arith, came .room);
-            less-first = omega (arith, came .within);
-            less-second = omega (arith, came .within);
-            left-unsound = λ i F. came .rest _ (visiting.left-unsound n cs ks x stop opened at o two lent r q step i F);
-            right-unsound = λ a F i G.
-                came .rest _ (visiting.right-unsound n cs ks x stop opened at o two lent r q step a F i G);
-            both-seen = λ a F b G.
-                came .rest _ (visiting.both-seen n cs ks x stop opened at o two lent r q step a F b G);
-          }
+  pub goes-right : {touch : Bool} → touch ≡ touchesOf x first → touch ≡ false
+      → CameTo n cs ks x stop c begun second (opened + 1)
+  goes-right g apart =
+      let far = rw (h .left-is) at (sym g ∙ apart) in
+      rw (h .right-is)
+      (record {
+        below = right-below lent (h .two) (h .q) (p .1);
+        room = omega (arith, h .came .room, h .two);
+        within = omega (arith, h .came .within);
+        rest = λ z w. h .came .rest z
+            (visiting.only-second n cs ks x stop opened at (h .o) (h .two) lent _ _ (h .down) far z w);
+      })
+
+  pub splits : SplitsAt n cs ks x stop c start first second (opened + 1)
+  splits =
+      rw (h .left-is, h .right-is, ← h .copied)
+      (record {
+        before = left-below lent (h .two) (h .r) (p .0);
+        after = right-below lent (h .two) (h .q) (p .1);
+        room = omega (arith, h .came .room);
+        less-first = omega (arith, h .came .within, h .two);
+        less-second = omega (arith, h .came .within, h .two);
+        left-unsound = λ i F. h .came .rest _
+            (visiting.left-unsound n cs ks x stop opened at (h .o) (h .two) lent _ _ (h .down) i F);
+        right-unsound = λ a F i G. h .came .rest _
+            (visiting.right-unsound n cs ks x stop opened at (h .o) (h .two) lent _ _ (h .down) a F i G);
+        both-seen = λ a F b G. h .came .rest _
+            (visiting.both-seen n cs ks x stop opened at (h .o) (h .two) lent _ _ (h .down) a F b G);
+      })
+
+-- From a node that the code has come to, after it copied the start and tested the node.
+module _ (n : ℕ) (cs : List ℤ) (ks : List ℕ) (x : Column) (stop c : ℕ) {begun at : Reached} {opened : ℕ}
+    (came : CameTo n cs ks x stop c begun at opened) where
+  pub ends-early : at .from .0 + at .hours < 2 ^ 64
+  ends-early = omega (arith, ends-within (came .below))
+
+  pub number-small : 2 * at .id .0 < 2 ^ 63
+  number-small = omega (arith, small-number (came .below))
+
+  pub counts : Fits w64 (opened + 1)
+  counts = omega (arith, came .room, some-hours (came .below))
+
+  pub left-early : {r : Range} {u : Reached} → u ≡ leftReached at r → u .from .0 + u .hours < 2 ^ 64
+  left-early e = rw e (omega (arith, ends-early))
+
+  pub right-early : {q : Range} {u : Reached} → u ≡ rightReached at q → u .from .0 + u .hours < 2 ^ 64
+  right-early e = rw e (omega (arith, ends-early))
+
+  module _ {test : Bool} (tested : test ≡ openedOf x stop at) where
+    pub ends : {start : Reached} → begun ≡ start → test ≡ false → EndsAt n cs ks x stop c start at opened
+    ends e closed = rw (← e) (record { lent = came .below; closed = sym tested ∙ closed; rest = came .rest })
+
+    module _ (taken : test ≡ true) (some : 1 ≤ stop) where
+      abbrev o : openedOf x stop at ≡ true
+      o = sym tested ∙ taken
+
+      abbrev two : 2 ≤ at .hours
+      two = omega (arith, opened-wide x stop at o)
+
+      module _ {pair : Bool} (asked : pair ≡ isPairOf (at .hours)) where
+        pub steps-there : Steps cs ks (at .id) (at .from) pair (at .range)
+        steps-there = rw asked (steps (came .below) (opened-wide x stop at o) two)
+
+        module _ {halves : Halves} (step : SteppedFrom n cs ks (at .id) (at .from) pair (at .range) halves) where
+          pub unsound : {start : Reached} → begun ≡ start → halves ≡ Halves.Unsound
+              → VisitedFrom n cs ks x stop c start (Visited.Unsound (at .id))
+          unsound e is =
+              rw (← e)
+              (came .rest _
+              (visiting.node-unsound n cs ks x stop opened at o two (came .below) (rw is at (step _ two asked))))
+
+          pub halved : {start : Reached} → begun ≡ start → {r q : Range} → halves ≡ Halves.Sound r q
+              → {first second : Reached} → first ≡ leftReached at r → second ≡ rightReached at q
+              → Halved n cs ks x stop c begun start at opened first second
+          halved e is left-is right-is =
+              record {
+                came = came;
+                copied = e;
+                o = o;
+                two = two;
+                r = _;
+                q = _;
+                down = rw is at (step _ two asked);
+                left-is = left-is;
+                right-is = right-is;
+              }
+
+pub ruleset narrows = (ends-early, number-small, counts, left-early, right-early, steps-there)
