@@ -1,28 +1,26 @@
 -- What the calls of a level ask, which is nothing, and what they promise, of their contracts as the kit reads them.
 -- Assumes nothing.
 use Rattle.kit.proofs.{_≡_, refl, sym, _∙_, length}
-use Rattle.kit.specs.Calls.{Promise, Call}
+use Rattle.kit.specs.Calls.{Call}
 use denote.Ref.{now}
 use Rattle.om3.specs.Document.{levelStretch, placesOf}
 use Rattle.level.proofs.stretch
 use Rattle.level.proofs.level
 
-abbrev pub StretchPromises : Promise stretch.ended
-StretchPromises κs n j size r e = r ≡ levelStretch n j size
-
 abbrev pub StretchCall : Type 2
-StretchCall = Call stretch.ended (λ M. stretch.clauses {M = M}) stretch.Symbol.routine StretchPromises (λ κs r e. r)
+StretchCall =
+    Call stretch.ended (λ M. stretch.clauses {M = M}) stretch.Symbol.routine
+    (λ κs n j size r e. r ≡ levelStretch n j size) (λ κs r e. r)
 
 pub stretch-call : StretchCall
 stretch-call =
     record { clauses = λ 𝓤 H A mem run. refl; meets = stretch.Met.met; one = λ κs a r r′ e e′ x y. x ∙ sym y }
 
-abbrev pub LevelPromises : Promise level.ended
-LevelPromises κs n j coefficients r e =
-    now r ≡ placesOf (levelStretch n j (length (now coefficients))) (now coefficients)
-
 abbrev pub LevelCall : Type 2
-LevelCall = Call level.ended (λ M. level.clauses {M = M}) level.Symbol.routine LevelPromises (λ κs r e. now r)
+LevelCall =
+    Call level.ended (λ M. level.clauses {M = M}) level.Symbol.routine
+    (λ κs n j coefficients r e. now r ≡ placesOf (levelStretch n j (length (now coefficients))) (now coefficients))
+    (λ κs r e. now r)
 
 pub level-call : LevelCall
 level-call = record { clauses = λ 𝓤 H A mem run. refl; meets = level.Met.met; one = λ κs a r r′ e e′ x y. x ∙ sym y }

@@ -2,18 +2,16 @@
 -- nothing.
 use Rattle.kit.proofs.{refl, sym, _∙_, List, ℕ, ℤ}
 use Rattle.words.specs.declared.Unpacking.{Unpacking}
-use Rattle.kit.specs.Calls.{Promise, Call, second, third}
+use Rattle.kit.specs.Calls.{Call, second, third}
 use denote.Ref.{now}
 use Rattle.reading.specs.Reading.{RecordRead}
 use Rattle.reading.proofs.read_record
 
-abbrev pub ReadRecordPromises : Promise read_record.ended
-ReadRecordPromises κs bytes coefficients codes r e =
-    RecordRead (now bytes) (now coefficients) (now codes) (now (second e)) (now (third e)) r
-
 abbrev pub ReadRecordCall : Type 2
 ReadRecordCall =
-    Call read_record.ended (λ M. read_record.clauses {M = M}) read_record.Symbol.routine ReadRecordPromises
+    Call read_record.ended (λ M. read_record.clauses {M = M}) read_record.Symbol.routine
+    (λ κs bytes coefficients codes r e.
+    RecordRead (now bytes) (now coefficients) (now codes) (now (second e)) (now (third e)) r)
     {B = Unpacking × List ℤ × List ℕ} (λ κs r e. (r, now (second e), now (third e)))
 
 pub read-record-call : ReadRecordCall

@@ -1,6 +1,6 @@
 -- Demand 1, every call ends with an answer, on anything: bad input gets the answer that document 01 fixes for it, in
--- its order of checks, and a refused call writes nothing. The statements are of the calls as they are shipped: a
--- call's ..Promises, in proofs/Clauses of its crate, is what its contract promises, and each-call says so. Assumes
+-- its order of checks, and a refused call writes nothing. The statements are of the calls as they are shipped:
+-- ..Promises, in sagivelume/proofs/Clauses, is what the contract of a call promises, and each-call says so. Assumes
 -- nothing.
 use Rattle.told.specs.Says.{EachSays}
 use Rattle.told.proofs.Says as told

@@ -1,8 +1,8 @@
 -- Demand 1 for the calls: each asks nothing, promises one fact, and gives one result. [statements 1] What this means
 -- of a call is `Call` (kit/specs/Calls), said of the clauses that the kit reads from its source; which fact it
 -- promises and what its result is, its answer and each buffer lent to be written, stands in the crate of the call,
--- in proofs/Clauses: MakeCall, with MakePromises, and so on. That a call ends is what the kit demands of every
--- function. Assumes nothing.
+-- in proofs/Clauses: MakeCall and so on. That a call ends is what the kit demands of every function. Assumes
+-- nothing.
 --
 --   EachTold   the calls of the boundary, which C and Rust link
 --   EachCall   these, and the calls behind them, those of the view and those of the printer

@@ -2,18 +2,15 @@
 -- nothing.
 use Rattle.kit.proofs.{refl, sym, _∙_, List, ℤ}
 use Rattle.words.specs.declared.Taking.{Taking}
-use Rattle.kit.specs.Calls.{Promise, Call, fourth}
+use Rattle.kit.specs.Calls.{Call, fourth}
 use denote.Ref.{now}
 use Rattle.turning.specs.Turning.{TurnedBack}
 use Rattle.turning.proofs.turn_back
 
-abbrev pub TurnBackPromises : Promise turn_back.ended
-TurnBackPromises κs n coefficients codes hours r e =
-    TurnedBack n (now coefficients) (now codes) (now hours) (now (fourth e)) r
-
 abbrev pub TurnBackCall : Type 2
 TurnBackCall =
-    Call turn_back.ended (λ M. turn_back.clauses {M = M}) turn_back.Symbol.routine TurnBackPromises
+    Call turn_back.ended (λ M. turn_back.clauses {M = M}) turn_back.Symbol.routine
+    (λ κs n coefficients codes hours r e. TurnedBack n (now coefficients) (now codes) (now hours) (now (fourth e)) r)
     {B = Taking × List ℤ} (λ κs r e. (r, now (fourth e)))
 
 pub turn-back-call : TurnBackCall

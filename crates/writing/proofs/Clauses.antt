@@ -2,18 +2,15 @@
 -- nothing.
 use Rattle.kit.proofs.{refl, sym, _∙_, List, ℕ}
 use Rattle.words.specs.declared.Writing.{Writing}
-use Rattle.kit.specs.Calls.{Promise, Call, fourth}
+use Rattle.kit.specs.Calls.{Call, fourth}
 use denote.Ref.{now}
 use Rattle.writing.specs.Writing.{RecordWritten}
 use Rattle.writing.proofs.write_record
 
-abbrev pub WriteRecordPromises : Promise write_record.ended
-WriteRecordPromises κs n coefficients codes bytes r e =
-    RecordWritten n (now coefficients) (now codes) (now bytes) (now (fourth e)) r
-
 abbrev pub WriteRecordCall : Type 2
 WriteRecordCall =
-    Call write_record.ended (λ M. write_record.clauses {M = M}) write_record.Symbol.routine WriteRecordPromises
+    Call write_record.ended (λ M. write_record.clauses {M = M}) write_record.Symbol.routine
+    (λ κs n coefficients codes bytes r e. RecordWritten n (now coefficients) (now codes) (now bytes) (now (fourth e)) r)
     {B = Writing × List ℕ} (λ κs r e. (r, now (fourth e)))
 
 pub write-record-call : WriteRecordCall

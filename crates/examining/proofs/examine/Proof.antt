@@ -19,9 +19,6 @@ root-told c g =
     laws.root-read (startOf c .args .coefficients .now) (c .before .before .root-range-arg .given)
     (c .before .root-range-arg2 .given) (c .root-range .ensures) g
 
-shared-slice-copy-out-root-range : tie.Need-shared-slice-copy-out-root-range
-shared-slice-copy-out-root-range c = omega (arith, c .before .pre .1 .coefficients, 2≤P (c .before .args .n))
-
 shared-slice-copy-out-root-range-2 : tie.Need-shared-slice-copy-out-root-range-2
 shared-slice-copy-out-root-range-2 c =
     let start = c .before .before in
@@ -56,5 +53,6 @@ returns-2 c =
 pub examine-spec : {M : Type 1} → statement M
 examine-spec =
     tie.close
-    (tie.spec shared-slice-copy-out-root-range shared-slice-copy-out-root-range-2 (λ c κs. search needs)
-    (λ c. search needs) (λ c. search needs) returns examine-below-requires returns-2)
+    (tie.spec (λ c. omega (arith, c .before .pre .1 .coefficients, 2≤P (c .before .args .n)))
+    shared-slice-copy-out-root-range-2 (λ c κs. search needs) (λ c. search needs) (λ c. search needs) returns
+    examine-below-requires returns-2)

@@ -26,9 +26,6 @@ returns-3 c =
     let room = rw (sized .places .ensures) at (c .before .if2 .left) in
     laws.too-deep _ _ _ (good (sized .before)) room (c .if3 .taken)
 
-mul-if4 : tie.Need-mul-if4
-mul-if4 c = omega (arith, laws.small-power _ _ (c .power .ensures) (c .before .if3 .left))
-
 returns-4 : tie.Need-returns-4
 returns-4 c =
     let tested = c .before .before .before in
@@ -49,5 +46,6 @@ returns-5 c =
 pub stretch-spec : {M : Type 1} → statement M
 stretch-spec =
     tie.close
-    (tie.spec (λ c κs. search needs) returns places-requires returns-2 returns-3 (λ c κs. search needs) mul-if4
-    returns-4 (λ c. search needs) returns-5)
+    (tie.spec (λ c κs. search needs) returns places-requires returns-2 returns-3 (λ c κs. search needs)
+    (λ c. omega (arith, laws.small-power _ _ (c .power .ensures) (c .before .if3 .left))) returns-4 (λ c. search needs)
+    returns-5)

@@ -27,18 +27,6 @@ add-at c =
     let start = c .before .before .before .before .before .before in
     omega (arith, laws.record-length _ _ _ (opened c), start .good)
 
-part-read-parts-end : tie.Need-part-read-parts-end
-part-read-parts-end c = omega (arith, laws.record-length _ _ _ (opened c))
-
-sub-read-parts-2 : tie.Need-sub-read-parts-2
-sub-read-parts-2 c = omega (arith, laws.record-length _ _ _ (opened (c .before)))
-
-part-read-parts-start-2 : tie.Need-part-read-parts-start-2
-part-read-parts-start-2 c = omega (arith, laws.record-length _ _ _ (opened (c .before)))
-
-read-parts-requires : tie.Need-read-parts-requires
-read-parts-requires c κs = laws.packed-table _ _ _ (opened (c .before .before .before .before))
-
 returns : tie.Need-returns
 returns c =
     let read = c .before .before .before in
@@ -56,5 +44,8 @@ pub read-record-spec : {M : Type 1} → statement M
 read-record-spec =
     tie.close
     (tie.spec (λ c κs. search needs) (λ c. search needs) mul-at add-at (λ c. search needs) (λ c. search needs)
-    part-read-parts-end sub-read-parts-2 part-read-parts-start-2 (λ c. search needs) read-parts-requires
-    (λ c. search needs) (λ c. search needs) (λ c. search needs) returns returns-2)
+    (λ c. omega (arith, laws.record-length _ _ _ (opened c)))
+    (λ c. omega (arith, laws.record-length _ _ _ (opened (c .before))))
+    (λ c. omega (arith, laws.record-length _ _ _ (opened (c .before)))) (λ c. search needs)
+    (λ c κs. laws.packed-table _ _ _ (opened (c .before .before .before .before))) (λ c. search needs)
+    (λ c. search needs) (λ c. search needs) returns returns-2)

@@ -17,11 +17,11 @@ returns c = two-places (c .before .args .n) (c .if1 .taken)
 sub-l-2 : tie.Need-sub-l-2
 sub-l-2 c = leading-le 64 (c .before .args .n - 1)
 
-shl-result : tie.Need-shl-result
-shl-result c = omega (arith, bits c, levels-most (c .before .args .n))
-
 returns-2 : tie.Need-returns-2
 returns-2 c = rw (bits c) (shifted (levels (c .before .args .n)) (levels-most (c .before .args .n)))
 
 pub places-spec : {M : Type 1} → statement M
-places-spec = tie.close (tie.spec returns (λ c. search needs) sub-l-2 (λ c. search needs) shl-result returns-2)
+places-spec =
+    tie.close
+    (tie.spec returns (λ c. search needs) sub-l-2 (λ c. search needs)
+    (λ c. omega (arith, bits c, levels-most (c .before .args .n))) returns-2)

@@ -19,9 +19,6 @@ mul-passed : tie.Need-mul-passed
 mul-passed c =
     omega (arith, passed c)
 
-add-cut : tie.Need-add-cut
-add-cut c = omega (arith, passed c, c .before .before .pre .most)
-
 add-hour : tie.Need-add-hour
 add-hour c =
     let start = c .before .before .before in
@@ -32,5 +29,5 @@ add-hour c =
 pub edge-spec : {M : Type 1} → statement M
 edge-spec =
     tie.close
-    (tie.spec (λ c. search needs) mul-passed (λ c. search needs) add-cut (λ c. search needs) add-hour
-    (λ c. search needs))
+    (tie.spec (λ c. search needs) mul-passed (λ c. search needs)
+    (λ c. omega (arith, passed c, c .before .before .pre .most)) (λ c. search needs) add-hour (λ c. search needs))
