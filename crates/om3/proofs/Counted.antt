@@ -6,18 +6,15 @@ use Rattle.signed.proofs.{clash}
 use Rattle.words.specs.declared.Column.{Column}
 use Rattle.om3.specs.Document.{keep, Node, root, left, right, width, start, Table, nodesBelow, noHour, opened}
 use Rattle.om3.specs.Document.{openedNodes, countAt}
-use Rattle.om3.proofs.{Tests.below-or-not, Intervals.shares-overlap, Intervals.within-inside}
+use Rattle.om3.proofs.{Tests.chosen, Tests.below-or-not, Intervals.shares-overlap, Intervals.within-inside}
 use Rattle.om3.proofs.{BelowOpened.opened-kept, BelowOpened.unopened-kept}
 use Rattle.om3.proofs.Opened.{opened-opens, unopened-if, node-cut}
 
 -- Without an hour the count is 0, and so less.
 count-at : (l : ℕ) (t : Table) (x : Column) (d : ℕ) → countAt l t x d ≤ 1 + 2 * length (openedNodes l t x d)
 unfolding countAt
-count-at l t x d = by (noHour x)
-  where
-    by : (b : Bool) → cond b 0 (1 + 2 * length (openedNodes l t x d)) ≤ 1 + 2 * length (openedNodes l t x d)
-    by true = omega arith
-    by false = omega arith
+count-at l t x d =
+    chosen (λ m. m ≤ 1 + 2 * length (openedNodes l t x d)) (noHour x) (λ e. omega arith) (λ e. omega arith)
 
 module _ (l : ℕ) (t : Table) (x : Column) (d : ℕ) where
   -- A node before the column, after it or wholly inside it is not opened, nor is one of level d or more.

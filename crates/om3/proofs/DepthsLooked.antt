@@ -5,7 +5,7 @@ use Rattle.kit.proofs.{_≡_, refl, Bool, true, false, cond, List, map, ⊎-eli
 use Rattle.words.specs.declared.{Column.Column, Range.Range, Range.the-variants.Empty}
 use Rattle.om3.specs.Document.{isGap, hour, hourOf, Node, InTree, left, right, width, start, hours, look, rangeOf}
 use Rattle.om3.specs.Document.{Table, reached, inColumn, columnHours, inside, outer, inner, Covers, LiesWithin}
-use Rattle.om3.proofs.{Tests.below-or-not, Ranges.range-halves, Opened.node-cut, RangesBelow.outer-unopened}
+use Rattle.om3.proofs.{Tests.below-or-not, Tests.chosen, Ranges.range-halves, Opened.node-cut, RangesBelow.outer-unopened}
 use Rattle.om3.proofs.{RangesBelow.inner-unopened, RangesWithin.hours-cover, RangesWithin.hours-within}
 use Rattle.om3.proofs.EachVisited.{AtEnds, GoingOn, root-visited}
 use Rattle.om3.proofs.Nodes.{left-in, right-in, start-root, width-root}
@@ -83,11 +83,9 @@ module _ (l : ℕ) (t : Table) (x : Column) (n : ℕ) (s : List ℤ)
     InLooked h v = LiesWithin (innerBelow l t x d h v) looked
 
     looked-ends : AtEnds l t x d InLooked
-    looked-ends h v q i m o = rw (inner-unopened l t x d h v q m o) (by (inside l x v) refl)
-      where
-        by : (b : Bool) → inside l x v ≡ b → LiesWithin (cond b (reached l t v) Empty) looked
-        by true p = node-within v i (inside-within l x v p)
-        by false p = tt
+    looked-ends h v q i m o =
+        rw (inner-unopened l t x d h v q m o)
+        (chosen (λ r. LiesWithin r looked) (inside l x v) (λ p. node-within v i (inside-within l x v p)) (λ p. tt))
 
     looked-goes : GoingOn l t x d InLooked
     looked-goes h v b i o p q =

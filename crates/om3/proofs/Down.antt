@@ -6,40 +6,29 @@ use Rattle.signed.proofs.{up, dn, add-parts, sub-parts, min-parts, max-parts, s
 use Rattle.words.specs.{largestDetail, leftMark, rightMark, gapMark, lowOf, highOf, Readings}
 use Rattle.words.specs.declared.{Range.Range, Range.the-variants.Empty, Range.the-variants.Held}
 use Rattle.om3.specs.Document.{isGap, hourRange, both, lowDetail, highDetail, code, leftLow, rightLow, leftHigh}
+use Rattle.om3.proofs.Tests.{chosen}
 use Rattle.om3.specs.Document.{rightHigh, leftHalf, rightHalf, firstOfPair, secondOfPair, rootRange}
 
 -- The left low is the low plus what the detail is over zero; the other three likewise.
 pub leftLow-parts : (a d : ℤ) → up (leftLow a d) + dn a ≡ up a + (up d - dn d) + dn (leftLow a d)
-leftLow-parts a d = by (leZ d (pos 0)) refl
-  where
-    by : (t : Bool) → leZ d (pos 0) ≡ t
-        → up (cond t a (a +ℤ d)) + dn a ≡ up a + (up d - dn d) + dn (cond t a (a +ℤ d))
-    by true e = omega signed
-    by false e = omega (signed, add-parts a d)
+leftLow-parts a d =
+    chosen (λ z. up z + dn a ≡ up a + (up d - dn d) + dn z) (leZ d (pos 0)) (λ e. omega signed)
+    (λ e. omega (signed, add-parts a d))
 
 pub rightLow-parts : (a d : ℤ) → up (rightLow a d) + dn a ≡ up a + (dn d - up d) + dn (rightLow a d)
-rightLow-parts a d = by (leZ d (pos 0)) refl
-  where
-    by : (t : Bool) → leZ d (pos 0) ≡ t
-        → up (cond t (a -ℤ d) a) + dn a ≡ up a + (dn d - up d) + dn (cond t (a -ℤ d) a)
-    by true e = omega (signed, sub-parts a d)
-    by false e = omega signed
+rightLow-parts a d =
+    chosen (λ z. up z + dn a ≡ up a + (dn d - up d) + dn z) (leZ d (pos 0)) (λ e. omega (signed, sub-parts a d))
+    (λ e. omega signed)
 
 pub leftHigh-parts : (a d : ℤ) → up (leftHigh a d) + dn a + (dn d - up d) ≡ up a + dn (leftHigh a d)
-leftHigh-parts a d = by (leZ (pos 0) d) refl
-  where
-    by : (t : Bool) → leZ (pos 0) d ≡ t
-        → up (cond t a (a +ℤ d)) + dn a + (dn d - up d) ≡ up a + dn (cond t a (a +ℤ d))
-    by true e = omega signed
-    by false e = omega (signed, add-parts a d)
+leftHigh-parts a d =
+    chosen (λ z. up z + dn a + (dn d - up d) ≡ up a + dn z) (leZ (pos 0) d) (λ e. omega signed)
+    (λ e. omega (signed, add-parts a d))
 
 pub rightHigh-parts : (a d : ℤ) → up (rightHigh a d) + dn a + (up d - dn d) ≡ up a + dn (rightHigh a d)
-rightHigh-parts a d = by (leZ (pos 0) d) refl
-  where
-    by : (t : Bool) → leZ (pos 0) d ≡ t
-        → up (cond t (a -ℤ d) a) + dn a + (up d - dn d) ≡ up a + dn (cond t (a -ℤ d) a)
-    by true e = omega (signed, sub-parts a d)
-    by false e = omega signed
+rightHigh-parts a d =
+    chosen (λ z. up z + dn a + (up d - dn d) ≡ up a + dn z) (leZ (pos 0) d) (λ e. omega (signed, sub-parts a d))
+    (λ e. omega signed)
 
 -- A number that is no more than the largest detail is no mark.
 pub no-mark : (k : ℕ) (z : ℤ) → largestDetail < k → z ≤ℤ pos largestDetail → isNumber k z ≡ false

@@ -6,7 +6,7 @@ use Rattle.words.specs.declared.{Timestamp.Timestamp, Answer.Answer, Answer.the
 use Rattle.words.specs.declared.{Answer.the-variants.Found, Column.Column}
 use Rattle.om3.specs.Document.{any, keep, hoursFrom, Node, root, left, right, hours, inColumn, columnHours}
 use Rattle.om3.specs.Document.{shares, inside, joined, lookThrough}
-use Rattle.om3.proofs.{Tests.fails-up, Windows.hours-cut, LookedThrough.hourAnswer}
+use Rattle.om3.proofs.{Tests.fails-up, Tests.chosen, Windows.hours-cut, LookedThrough.hourAnswer}
 use Rattle.om3.proofs.{LookedThrough.look-through-more}
 use Rattle.om3.proofs.Lists.{keep-append, every-kept, nothing-kept}
 use Rattle.om3.proofs.Nodes.{start-root, width-root, hours-halves}
@@ -24,12 +24,9 @@ unfolding keep
 no-reading-kept n s p [] e = e
 no-reading-kept n s p (h ∷ hs) e =
     let two = none-joined (hourAnswer n s h) (lookThrough n s hs) (sym (look-through-more n s h hs) ∙ e) in
-    by (p h) (two .0) (no-reading-kept n s p hs (two .1))
-  where
-    by : (b : Bool) → hourAnswer n s h ≡ NoReading → lookThrough n s (keep p hs) ≡ NoReading
-        → lookThrough n s (cond b (h ∷ keep p hs) (keep p hs)) ≡ NoReading
-    by true q r = look-through-more n s h (keep p hs) ∙ rw (q, r)
-    by false q r = r
+    let r = no-reading-kept n s p hs (two .1) in
+    chosen (λ gs. lookThrough n s gs ≡ NoReading) (p h)
+    (λ e. look-through-more n s h (keep p hs) ∙ rw (two .0, r)) (λ e. r)
 
 module _ (l : ℕ) (x : Column) (v : Node) where
   -- The hours of node v that lie in column x.

@@ -7,7 +7,7 @@ use Rattle.signed.proofs.{clash}
 use Rattle.words.specs.declared.Column.{Column}
 use Rattle.om3.specs.Document.{keep, Node, InTree, root, left, right, Table, nodesBelow, allNodes, hasReading}
 use Rattle.om3.specs.Document.{shares, inside, opened, visited, openedNodes, isInner, innerNodes, insideNodes}
-use Rattle.om3.proofs.{Tests.and-left, Intervals.inside-shares, Opened.opened-opens, Opened.unopened-if}
+use Rattle.om3.proofs.{Tests.and-left, Tests.chosen, Intervals.inside-shares, Opened.opened-opens, Opened.unopened-if}
 use Rattle.om3.proofs.Listed.{All, all-append, all-map}
 
 -- What is kept of nodes that are all of a kind is of that kind, and passes the test.
@@ -15,12 +15,9 @@ all-kept : (P : Node → Type 0) (p : Node → Bool) (vs : List Node) → All P 
     → All (λ v. P v × (p v ≡ true)) (keep p vs)
 unfolding keep
 all-kept P p [] a = tt
-all-kept P p (v ∷ vs) a = by (p v) refl (all-kept P p vs (a .1))
-  where
-    by : (b : Bool) → p v ≡ b → All (λ v. P v × (p v ≡ true)) (keep p vs)
-        → All (λ v. P v × (p v ≡ true)) (cond b (v ∷ keep p vs) (keep p vs))
-    by true e r = ((a .0, e), r)
-    by false e r = r
+all-kept P p (v ∷ vs) a =
+    let r = all-kept P p vs (a .1) in
+    chosen (All (λ v. P v × (p v ≡ true))) (p v) (λ e. ((a .0, e), r)) (λ e. r)
 
 below-in : (l h : ℕ) (v : Node) → v .level + h ≤ suc l → v .index < 2 ^ v .level → All (InTree l) (nodesBelow h v)
 unfolding nodesBelow

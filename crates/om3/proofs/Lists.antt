@@ -5,7 +5,7 @@ use Rattle.kit.proofs.{_+_, _≤_, _<_, zero-add, add-zero, suc-add, eq-or-lt-o
 use Rattle.kit.proofs.{length-map, take-all}
 use Rattle.signed.proofs.{clash}
 use Rattle.om3.specs.Document.{upFrom, any, every, keep, firstFrom}
-use Rattle.om3.proofs.Tests.{and-left, and-right, neither, below-or-not}
+use Rattle.om3.proofs.Tests.{and-left, and-right, neither, chosen, below-or-not}
 
 pub up-append : (f a b : ℕ) → upFrom f (a + b) ≡ upFrom f a ++ upFrom (f + a) b
 unfolding upFrom
@@ -70,38 +70,29 @@ module _ (p : ℕ → Bool) where
   pub first-from : (j f : ℕ) → j ≤ firstFrom p j f
   unfolding firstFrom
   first-from j zero = omega arith
-  first-from j (suc f) = by (p j) (first-from (suc j) f)
-    where
-      by : (b : Bool) → suc j ≤ firstFrom p (suc j) f → j ≤ cond b j (firstFrom p (suc j) f)
-      by true h = omega arith
-      by false h = omega arith
+  first-from j (suc f) =
+      let h = first-from (suc j) f in
+      chosen (λ m. j ≤ m) (p j) (λ e. omega arith) (λ e. omega arith)
 
   pub first-upto : (j f : ℕ) → firstFrom p j f ≤ j + f
   unfolding firstFrom
   first-upto j zero = omega arith
-  first-upto j (suc f) = by (p j) (first-upto (suc j) f)
-    where
-      by : (b : Bool) → firstFrom p (suc j) f ≤ suc j + f → cond b j (firstFrom p (suc j) f) ≤ j + suc f
-      by true h = omega arith
-      by false h = omega arith
+  first-upto j (suc f) =
+      let h = first-upto (suc j) f in
+      chosen (λ m. m ≤ j + suc f) (p j) (λ e. omega arith) (λ e. omega arith)
 
   pub first-passes : (j f : ℕ) → p (j + f) ≡ true → p (firstFrom p j f) ≡ true
   unfolding firstFrom
   first-passes j zero e = ap p (sym (add-zero j)) ∙ e
   first-passes j (suc f) e =
       let m : suc j + f ≡ j + suc f = omega arith in
-      by (p j) refl (first-passes (suc j) f (ap p m ∙ e))
-    where
-      by : (b : Bool) → p j ≡ b → p (firstFrom p (suc j) f) ≡ true → p (cond b j (firstFrom p (suc j) f)) ≡ true
-      by true q h = q
-      by false q h = h
+      let h = first-passes (suc j) f (ap p m ∙ e) in
+      chosen (λ i. p i ≡ true) (p j) (λ q. q) (λ q. h)
 
   pub first-least : (j f i : ℕ) → j ≤ i → i ≤ j + f → p i ≡ true → firstFrom p j f ≤ i
   unfolding firstFrom
   first-least j zero i a b e = a
-  first-least j (suc f) i a b e = by (p j) refl (first-least (suc j) f i)
-    where
-      by : (t : Bool) → p j ≡ t → (suc j ≤ i → i ≤ suc j + f → p i ≡ true → firstFrom p (suc j) f ≤ i)
-          → cond t j (firstFrom p (suc j) f) ≤ i
-      by true q h = a
-      by false q h = h (⊎-elim (λ m. clash (sym q ∙ ap p m ∙ e)) (λ m. m) (eq-or-lt-of-le a)) (omega arith) e
+  first-least j (suc f) i a b e =
+      let h = first-least (suc j) f i in
+      chosen (λ m. m ≤ i) (p j) (λ q. a)
+      (λ q. h (⊎-elim (λ m. clash (sym q ∙ ap p m ∙ e)) (λ m. m) (eq-or-lt-of-le a)) (omega arith) e)

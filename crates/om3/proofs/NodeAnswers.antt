@@ -6,6 +6,7 @@ use Rattle.words.specs.declared.{Timestamp.Timestamp, Reading.Reading, Summary.
 use Rattle.words.specs.declared.{Answer.the-variants.NoReading, Answer.the-variants.Found}
 use Rattle.om3.specs.Document.{upFrom, isGap, hour, hourOf, Node, InTree, left, right, hours, isEmpty, rangeOf}
 use Rattle.om3.specs.Document.{Table, reached, hasReading, joined, readingOf, lookThrough}
+use Rattle.om3.proofs.Tests.{chosen}
 use Rattle.om3.proofs.Nodes.{hours-halves, width-hour, start-hour}
 use Rattle.om3.proofs.LookedThrough.{look-through-append, look-through-range}
 use Rattle.om3.proofs.LookedThrough.{joined-assoc, rangeOfAnswer, hourAnswer, look-through-one}
@@ -44,20 +45,12 @@ found-not (Found f) e = clash (sym e)
 -- An hour that answers has its reading as its first and as its last.
 module _ (n : ℕ) (s : List ℤ) (h : Timestamp) where
   pub hour-begins : found (hourAnswer n s h) ≡ true → Begins (hourAnswer n s h) (readingOf n s h)
-  hour-begins = by (isGap (hourOf n s h)) _ refl
-    where
-      by : (b : Bool) (f : Summary) → f .first ≡ readingOf n s h → found (cond b NoReading (Found f)) ≡ true
-          → Begins (cond b NoReading (Found f)) (readingOf n s h)
-      by true f p e = clash e
-      by false f p e = p
+  hour-begins =
+      chosen (λ a. found a ≡ true → Begins a (readingOf n s h)) (isGap (hourOf n s h)) (λ g e. clash e) (λ g e. refl)
 
   pub hour-ends : found (hourAnswer n s h) ≡ true → Ends (hourAnswer n s h) (readingOf n s h)
-  hour-ends = by (isGap (hourOf n s h)) _ refl
-    where
-      by : (b : Bool) (f : Summary) → f .last ≡ readingOf n s h → found (cond b NoReading (Found f)) ≡ true
-          → Ends (cond b NoReading (Found f)) (readingOf n s h)
-      by true f p e = clash e
-      by false f p e = p
+  hour-ends =
+      chosen (λ a. found a ≡ true → Ends a (readingOf n s h)) (isGap (hourOf n s h)) (λ g e. clash e) (λ g e. refl)
 
 module _ (l n : ℕ) (s : List ℤ) where
   abbrev A : Node → Answer

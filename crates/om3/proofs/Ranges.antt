@@ -8,7 +8,7 @@ use Rattle.words.specs.{largestReading, gapMark, gap, lowOf, Readings}
 use Rattle.words.specs.declared.{Timestamp.Timestamp, Range.Range, Range.the-variants.Empty, Range.the-variants.Held}
 use Rattle.om3.specs.Document.{isReading, isGap, Holds, hourOf, Node, left, right, hours, hourRange, both, look}
 use Rattle.om3.specs.Document.{rangeOf}
-use Rattle.om3.proofs.{Tests.or-cases, Tests.between, Nodes.hours-halves}
+use Rattle.om3.proofs.{Tests.or-cases, Tests.chosen, Tests.between, Nodes.hours-halves}
 
 pub min-assoc : (a b c : ℤ) → minZ (minZ a b) c ≡ minZ a (minZ b c)
 min-assoc a b c = omega (signed, min-parts a b, min-parts b c, min-parts (minZ a b) c, min-parts a (minZ b c))
@@ -28,11 +28,7 @@ both-empty (Held a b) = refl
 
 -- The low of one hour's range is what the hour holds.
 pub low-hour : (z : ℤ) → lowOf (hourRange z) ≡ z
-low-hour z = by (isGap z) refl
-  where
-    by : (b : Bool) → isGap z ≡ b → lowOf (cond b Empty (Held z z)) ≡ z
-    by true e = sym (isNumber-true gapMark z e)
-    by false e = refl
+low-hour z = chosen (λ r. lowOf r ≡ z) (isGap z) (λ e. sym (isNumber-true gapMark z e)) (λ e. refl)
 
 -- Two neighbouring stretches of hours: their ranges join.
 pub look-append : (xs ys : List ℤ) → look (xs ++ ys) ≡ both (look xs) (look ys)
@@ -55,22 +51,17 @@ readings-both (Held a b) (Held c d) p q = omega (signed, min-parts a c, max-part
 
 -- An hour that holds a reading or a gap.
 readings-hour : (z : ℤ) → (isReading z || isGap z) ≡ true → Readings (hourRange z)
-readings-hour z h = by (isGap z) h
-  where
-    by : (b : Bool) → (isReading z || b) ≡ true → Readings (cond b Empty (Held z z))
-    by true e = tt
-    by false e =
-        let f : isReading z ≡ true = ⊎-elim (λ p. p) (λ c. clash c) (or-cases (isReading z) false e) in
-        omega (signed, between (negℤ (pos largestReading)) (pos largestReading) z f)
+readings-hour z h =
+    chosen Readings (isGap z) (λ e. tt) (λ e.
+    let f : isReading z ≡ true = ⊎-elim (λ p. p) (λ c. clash (sym e ∙ c)) (or-cases (isReading z) (isGap z) h) in
+    omega (signed, between (negℤ (pos largestReading)) (pos largestReading) z f))
 
 module _ (n : ℕ) (s : List ℤ) (holds : Holds n s) where
   pub readings-at : (h : Timestamp) → Readings (hourRange (hourOf n s h))
   unfolding hourOf
-  readings-at h = by (ltb (h .0) n) refl
-    where
-      by : (b : Bool) → ltb (h .0) n ≡ b → Readings (hourRange (cond b (getD s (h .0) gap) gap))
-      by true e = readings-hour (getD s (h .0) gap) (holds (h .0) (ltb-true (h .0) n e))
-      by false e = tt
+  readings-at h =
+      chosen (λ z. Readings (hourRange z)) (ltb (h .0) n)
+      (λ e. readings-hour (getD s (h .0) gap) (holds (h .0) (ltb-true (h .0) n e))) (λ e. tt)
 
   pub readings-look : (hs : List Timestamp) → Readings (look (map (hourOf n s) hs))
   unfolding look

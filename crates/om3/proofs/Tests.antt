@@ -1,6 +1,6 @@
 -- Tests taken apart and put together, and cases of natural numbers. Assumes nothing.
-use Rattle.kit.proofs.{_≡_, refl, sym, _∙_, Bool, true, false, _&&_, _||_, _⊎_, ⊎-elim, inl, inr, ℕ, _+_, _-_, _*_, _/_}
-use Rattle.kit.proofs.{_%_, _≤_, _<_, eq-zero-or-pos, arith, ℤ, leZ, _≤ℤ_}
+use Rattle.kit.proofs.{_≡_, refl, sym, _∙_, Bool, true, false, cond, _&&_, _||_, _⊎_, ⊎-elim, inl, inr, ℕ, _+_, _-_, _*_}
+use Rattle.kit.proofs.{_/_, _%_, _≤_, _<_, eq-zero-or-pos, arith, ℤ, leZ, _≤ℤ_}
 use Rattle.signed.proofs.{clash, signed}
 
 pub and-left : (a b : Bool) → (a && b) ≡ true → a ≡ true
@@ -33,6 +33,11 @@ right-true false e = e
 pub fails-up : (a b : Bool) → (a ≡ true → b ≡ true) → b ≡ false → a ≡ false
 fails-up true b f e = sym (f refl) ∙ e
 fails-up false b f e = refl
+
+-- What holds of each of two, where a test chooses it, holds of the one that is chosen.
+pub chosen : {A : Type 0} (P : A → Type 0) (b : Bool) {x y : A} → (b ≡ true → P x) → (b ≡ false → P y) → P (cond b x y)
+chosen P true f g = f refl
+chosen P false f g = g refl
 
 pub below-or-not : (a b : ℕ) → (a < b) ⊎ (b ≤ a)
 below-or-not a b = ⊎-elim (λ e. inr (omega arith)) (λ p. inl (omega arith)) (eq-zero-or-pos (b - a))

@@ -5,6 +5,7 @@ use Rattle.kit.proofs.{_≡_, refl, sym, ap, _∙_, Bool, true, false, cond, Li
 use Rattle.words.specs.{lowOf, declared.Timestamp.Timestamp, declared.Reading.Reading, declared.Answer.Answer}
 use Rattle.om3.specs.Document.{hour, hourOf, Node, InTree, left, right, rangeOf, Table, reached, hasReading}
 use Rattle.om3.specs.Document.{walkEnd, towardsFirst, towardsLast, readingAt, readingOf}
+use Rattle.om3.proofs.Tests.{chosen}
 use Rattle.om3.proofs.{Ranges.low-hour, Places.hour-range, Answers.joined-right, LookedThrough.hourAnswer}
 use Rattle.om3.proofs.Nodes.{left-in, right-in, start-hour}
 use Rattle.om3.proofs.NodeAnswers.{nodeAnswer, Begins, Ends, begins-joined, ends-joined, found, hour-begins}
@@ -24,18 +25,10 @@ module _ {l : ℕ} {v : Node} (i : InTree l v) (b : v .level < l) where
 
 module _ (l : ℕ) (t : Table) (v : Node) (i : InTree l v) (b : v .level < l) where
   pub first-taken : Taken l v (towardsFirst l t v)
-  first-taken = by (hasReading l t (left v))
-    where
-      by : (c : Bool) → Taken l v (cond c (left v) (right v))
-      by true = left-taken i b
-      by false = right-taken i b
+  first-taken = chosen (Taken l v) (hasReading l t (left v)) (λ e. left-taken i b) (λ e. right-taken i b)
 
   pub last-taken : Taken l v (towardsLast l t v)
-  last-taken = by (hasReading l t (right v))
-    where
-      by : (c : Bool) → Taken l v (cond c (right v) (left v))
-      by true = right-taken i b
-      by false = left-taken i b
+  last-taken = chosen (Taken l v) (hasReading l t (right v)) (λ e. right-taken i b) (λ e. left-taken i b)
 
 module _ (l n : ℕ) (s : List ℤ) (t : Table) where
   abbrev A : Node → Answer
@@ -92,26 +85,24 @@ module _ (l n : ℕ) (s : List ℤ) (t : Table) where
           ∙ rw (no-answer l n s t ranges (right v) (right-in i b) e) (joined-right (A (left v)))
 
       first-step : Step Begins v (towardsFirst l t v)
-      first-step = by (hasReading l t (left v)) refl
-        where
-          by : (c : Bool) → hasReading l t (left v) ≡ c → Step Begins v (cond c (left v) (right v))
-          by true e =
-              record {
-                reading = e;
-                shows = λ q p. rw (answer-halves l n s v b) (begins-joined (A (left v)) (A (right v)) q p);
-              }
-          by false e = whole-step Begins (right v) (right-in i b) (right-whole e)
+      first-step =
+          chosen (Step Begins v) (hasReading l t (left v))
+          (λ e.
+          record {
+            reading = e;
+            shows = λ q p. rw (answer-halves l n s v b) (begins-joined (A (left v)) (A (right v)) q p);
+          })
+          (λ e. whole-step Begins (right v) (right-in i b) (right-whole e))
 
       last-step : Step Ends v (towardsLast l t v)
-      last-step = by (hasReading l t (right v)) refl
-        where
-          by : (c : Bool) → hasReading l t (right v) ≡ c → Step Ends v (cond c (right v) (left v))
-          by true e =
-              record {
-                reading = e;
-                shows = λ q p. rw (answer-halves l n s v b) (ends-joined (A (left v)) (A (right v)) q p);
-              }
-          by false e = whole-step Ends (left v) (left-in i b) (left-whole e)
+      last-step =
+          chosen (Step Ends v) (hasReading l t (right v))
+          (λ e.
+          record {
+            reading = e;
+            shows = λ q p. rw (answer-halves l n s v b) (ends-joined (A (left v)) (A (right v)) q p);
+          })
+          (λ e. whole-step Ends (left v) (left-in i b) (left-whole e))
 
     pub walk-first : (h : ℕ) (v : Node) → v .level + h ≡ l → InTree l v → hasReading l t v ≡ true
         → Begins (A v) (readingAt l t (walkEnd (towardsFirst l t) h v))
