@@ -1,6 +1,6 @@
 -- Two tables that agree at the places of a table of l levels reach the same ranges, and one is sound if the other is:
 -- what lies beyond is not looked at. Assumes nothing.
-use Rattle.kit.proofs.{_≡_, _∙_, true, cond, ⊎-elim, ℕ, zero, suc, _+_, _-_, _*_, _/_, _%_, _^_, _≤_, _<_, two-pow-succ}
+use Rattle.kit.proofs.{_≡_, refl, _∙_, true, cond, ⊎-elim, ℕ, zero, suc, _+_, _-_, _*_, _/_, _%_, _^_, _≤_, _<_, two-pow-succ}
 use Rattle.kit.proofs.{eq-or-lt-of-le, arith, eqb, getD, pow-pos, pow-mono}
 use Rattle.words.specs.declared.Range.{Range}
 use Rattle.om3.specs.Document.{every, Node, InTree, number, Table, coefficientAt, lowDetailAt, highDetailAt}
@@ -25,15 +25,10 @@ module _ (l : ℕ) (t u : Table) (same : Agree l t u) where
     code-agrees : suc (v .level) ≡ l → codeAt l t (number v) ≡ codeAt l u (number v)
     code-agrees h = same .codes (number v .0 - 2 ^ l / 2) (code-room l v i h)
 
-    left-agrees : v .level < l → (r : Range) → leftOf l t v r ≡ leftOf l u v r
-    left-agrees b r =
-        ⊎-elim (λ h. rw (pair-yes l v h, code-agrees h)) (λ h. rw (pair-no l v h, low-agrees h, high-agrees h))
-        (eq-or-lt-of-le b)
-
-    right-agrees : v .level < l → (r : Range) → rightOf l t v r ≡ rightOf l u v r
-    right-agrees b r =
-        ⊎-elim (λ h. rw (pair-yes l v h, code-agrees h)) (λ h. rw (pair-no l v h, low-agrees h, high-agrees h))
-        (eq-or-lt-of-le b)
+    halves-agree : v .level < l → (r : Range) → (leftOf l t v r ≡ leftOf l u v r) × (rightOf l t v r ≡ rightOf l u v r)
+    halves-agree b r =
+        ⊎-elim (λ h. rw (pair-yes l v h, code-agrees h) (refl, refl))
+        (λ h. rw (pair-no l v h, low-agrees h, high-agrees h) (refl, refl)) (eq-or-lt-of-le b)
 
   module _ (o : 1 ≤ l) where
     pub reached-agrees : (j k : ℕ) → j ≤ l → k < 2 ^ j → reachedAt l t j k ≡ reachedAt l u j k
@@ -46,7 +41,7 @@ module _ (l : ℕ) (t u : Table) (same : Agree l t u) where
         let i : InTree l v = record { deep = omega arith; among = b′ } in
         let r = reachedAt l u j (k / 2) in
         rw (reached-agrees j (k / 2) (i .deep) b′)
-        (λ d. cond (eqb (k % 2) 0) (left-agrees v i le r d) (right-agrees v i le r d))
+        (let both = halves-agree v i le r in λ d. cond (eqb (k % 2) 0) (both .0 d) (both .1 d))
 
     node-agrees : (n : ℕ) (v : Node) → InTree l v → v .level < l → soundNode l n t v ≡ soundNode l n u v
     unfolding soundNode

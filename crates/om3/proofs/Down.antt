@@ -53,27 +53,19 @@ module _ (a b c d : ℤ) (p : Readings (Held a b)) (q : Readings (Held c d)) whe
   small : (a -ℤ c) ≤ℤ pos largestDetail
   small = omega (signed, sub-parts a c)
 
-  left-held : leftHalf (both (Held a b) (Held c d)) (a -ℤ c) (b -ℤ d) ≡ Held a b
-  left-held =
+  held-back : (leftHalf (both (Held a b) (Held c d)) (a -ℤ c) (b -ℤ d) ≡ Held a b)
+      × (rightHalf (both (Held a b) (Held c d)) (a -ℤ c) (b -ℤ d) ≡ Held c d)
+  held-back =
       rw (no-mark leftMark (a -ℤ c) (lit< tt) small, no-mark rightMark (a -ℤ c) (lit< tt) small)
-      (cc (left-low-back a c, left-high-back b d))
+      (cc (left-low-back a c, left-high-back b d), cc (right-low-back a c, right-high-back b d))
 
-  right-held : rightHalf (both (Held a b) (Held c d)) (a -ℤ c) (b -ℤ d) ≡ Held c d
-  right-held =
-      rw (no-mark leftMark (a -ℤ c) (lit< tt) small, no-mark rightMark (a -ℤ c) (lit< tt) small)
-      (cc (right-low-back a c, right-high-back b d))
-
-pub left-back : (r s : Range) → Readings r → Readings s → leftHalf (both r s) (lowDetail r s) (highDetail r s) ≡ r
-left-back Empty Empty p q = refl
-left-back Empty (Held c d) p q = refl
-left-back (Held a b) Empty p q = refl
-left-back (Held a b) (Held c d) p q = left-held a b c d p q
-
-pub right-back : (r s : Range) → Readings r → Readings s → rightHalf (both r s) (lowDetail r s) (highDetail r s) ≡ s
-right-back Empty Empty p q = refl
-right-back Empty (Held c d) p q = refl
-right-back (Held a b) Empty p q = refl
-right-back (Held a b) (Held c d) p q = right-held a b c d p q
+pub halves-back : (r s : Range) → Readings r → Readings s
+    → (leftHalf (both r s) (lowDetail r s) (highDetail r s) ≡ r)
+    × (rightHalf (both r s) (lowDetail r s) (highDetail r s) ≡ s)
+halves-back Empty Empty p q = (refl, refl)
+halves-back Empty (Held c d) p q = (refl, refl)
+halves-back (Held a b) Empty p q = (refl, refl)
+halves-back (Held a b) (Held c d) p q = held-back a b c d p q
 
 -- The root values give node 1's range.
 pub root-back : (r : Range) → Readings r → rootRange (lowOf r) (highOf r) ≡ r
@@ -90,22 +82,21 @@ module _ (x y : ℤ) where
   abbrev codeIf : Bool → Bool → Bool → ℕ
   codeIf f g h = cond f (cond g 4 3) (cond g 2 (cond h 1 0))
 
-  pub first-back : firstOfPair (both (hourRange x) (hourRange y)) (code x y) ≡ hourRange x
-  first-back = by (isGap x) (isGap y) (ltZ x y) refl
+  pub hours-back : (firstOfPair (both (hourRange x) (hourRange y)) (code x y) ≡ hourRange x)
+      × (secondOfPair (both (hourRange x) (hourRange y)) (code x y) ≡ hourRange y)
+  hours-back = by (isGap x) (isGap y) (ltZ x y) refl
     where
-      by : (f g h : Bool) → ltZ x y ≡ h → firstOfPair (both (hourIf f x) (hourIf g y)) (codeIf f g h) ≡ hourIf f x
-      by true true h e = refl
-      by true false h e = refl
-      by false true h e = refl
-      by false false true e = let m : minZ x y ≡ x = omega (signed, min-parts x y) in cc
-      by false false false e = let m : maxZ x y ≡ x = omega (signed, max-parts x y) in cc
-
-  pub second-back : secondOfPair (both (hourRange x) (hourRange y)) (code x y) ≡ hourRange y
-  second-back = by (isGap x) (isGap y) (ltZ x y) refl
-    where
-      by : (f g h : Bool) → ltZ x y ≡ h → secondOfPair (both (hourIf f x) (hourIf g y)) (codeIf f g h) ≡ hourIf g y
-      by true true h e = refl
-      by true false h e = refl
-      by false true h e = refl
-      by false false true e = let m : maxZ x y ≡ y = omega (signed, max-parts x y) in cc
-      by false false false e = let m : minZ x y ≡ y = omega (signed, min-parts x y) in cc
+      by : (f g h : Bool) → ltZ x y ≡ h
+          → (firstOfPair (both (hourIf f x) (hourIf g y)) (codeIf f g h) ≡ hourIf f x)
+          × (secondOfPair (both (hourIf f x) (hourIf g y)) (codeIf f g h) ≡ hourIf g y)
+      by true true h e = (refl, refl)
+      by true false h e = (refl, refl)
+      by false true h e = (refl, refl)
+      by false false true e =
+          let low : minZ x y ≡ x = omega (signed, min-parts x y) in
+          let high : maxZ x y ≡ y = omega (signed, max-parts x y) in
+          (cc, cc)
+      by false false false e =
+          let low : minZ x y ≡ y = omega (signed, min-parts x y) in
+          let high : maxZ x y ≡ x = omega (signed, max-parts x y) in
+          (cc, cc)

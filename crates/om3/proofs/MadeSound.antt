@@ -12,7 +12,7 @@ use Rattle.om3.specs.Document.{soundDetails, soundCode, gapFrom, soundNo
 use Rattle.om3.proofs.Tests.{both-true, left-true, right-true, is-between}
 use Rattle.om3.proofs.{Nodes.pair-yes, Nodes.pair-no, Ranges.range-halves, Ranges.readings-range}
 use Rattle.om3.proofs.{Reached.reached-range, NodeLists.table-from-each}
-use Rattle.om3.proofs.Down.{left-back, right-back, first-back, second-back}
+use Rattle.om3.proofs.Down.{halves-back, hours-back}
 use Rattle.om3.proofs.Places.{root-low, root-high, low-place, high-place, code-place, hour-range}
 
 root-sound : (r : Range) → Readings r → soundRootValues (lowOf r) (highOf r) ≡ true
@@ -40,8 +40,8 @@ module _ (a b c d : ℤ) (p : Readings (Held a b)) (q : Readings (Held c d)) whe
       (omega (signed, sub-parts a c)) (omega (signed, sub-parts a c)))
       (is-between (negℤ (pos largestDetail)) (pos largestDetail) (b -ℤ d)
       (omega (signed, sub-parts b d)) (omega (signed, sub-parts b d))))
-      (ap ordered (left-back (Held a b) (Held c d) p q) ∙ omega signed))
-      (ap ordered (right-back (Held a b) (Held c d) p q) ∙ omega signed))
+      (ap ordered (halves-back (Held a b) (Held c d) p q .0) ∙ omega signed))
+      (ap ordered (halves-back (Held a b) (Held c d) p q .1) ∙ omega signed))
 
 details-sound : (r s : Range) → Readings r → Readings s
     → soundDetails (both r s) (lowDetail r s) (highDetail r s) ≡ true
@@ -105,8 +105,8 @@ module _ (l n : ℕ) (s : List ℤ) (holds : Holds n s) (o : 1 ≤ l) where
           code-place l n s v i h,
           hour-range l n s (left v) h,
           hour-range l n s (right v) h,
-          first-back x y,
-          second-back x y,
+          hours-back x y .0,
+          hours-back x y .1,
         )
         (let C = soundCode (both (hourRange x) (hourRange y)) (code x y) in
         let F = gapFrom n (firstHour l (left v)) (hourRange x) in

@@ -5,7 +5,7 @@ use Rattle.kit.proofs.{eq-eqb, ne-eqb}
 use Rattle.words.specs.declared.NodeId.{NodeId}
 use Rattle.om3.specs.Document.{upFrom, hour, Node, InTree, number, root, left, right, isPair, width, start, hours}
 use Rattle.om3.specs.Document.{levelOf, nodeOf}
-use Rattle.om3.proofs.{Tests.below-or-not, Lists.up-append, Levels.half-pow}
+use Rattle.om3.proofs.{Tests.below-or-not, Tests.even-or-odd, Lists.up-append, Levels.half-pow}
 
 pub root-in : (l : ℕ) → InTree l root
 root-in l = record { deep = omega arith; among = omega arith }
@@ -140,3 +140,19 @@ numbered (suc l) m some most =
       numbered = omega arith;
     })
     (below-or-not m (2 ^ l))
+
+-- Each place from 2 up to 2^l − 1 is that of a low or of a high detail of a node that is not a pair: what holds of the
+-- details of all these nodes holds of all these places.
+pub detail-places : (l : ℕ) (P : ℕ → Type 0) → 1 ≤ l
+    → ((v : Node) → InTree l v → suc (v .level) < l → P (2 * number v .0) × P (2 * number v .0 + 1))
+    → (p : ℕ) → 2 ≤ p → p < 2 ^ l → P p
+detail-places l P o each p two b =
+    let e : l ≡ suc (l - 1) = omega arith in
+    let b′ : p < 2 ^ suc (l - 1) = rw e at b in
+    let w = numbered (l - 1) (p / 2) (omega arith) (omega (arith, two-pow-succ (l - 1))) in
+    let i : InTree l (w .node) = record { deep = omega (arith, w .above); among = w .low } in
+    let holds = each (w .node) i (omega (arith, w .above)) in
+    ⊎-elim
+    (λ z. let y : 2 * number (w .node) .0 ≡ p = omega (arith, w .numbered) in rw (← y) (holds .0))
+    (λ z. let y : 2 * number (w .node) .0 + 1 ≡ p = omega (arith, w .numbered) in rw (← y) (holds .1))
+    (even-or-odd p)

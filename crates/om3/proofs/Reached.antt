@@ -7,7 +7,7 @@ use Rattle.om3.specs.Document.{Holds, hour, hourOf, Node, InTree, root, 
 use Rattle.om3.specs.Document.{pairCode, tableOf, coefficientAt, rootRange, leftOf, rightOf, reachedAt, reached}
 use Rattle.om3.proofs.{Tests.even-or-odd, Nodes.pair-yes, Nodes.pair-no, Ranges.range-halves}
 use Rattle.om3.proofs.{Ranges.readings-range}
-use Rattle.om3.proofs.Down.{left-back, right-back, root-back, first-back, second-back}
+use Rattle.om3.proofs.Down.{halves-back, root-back, hours-back}
 use Rattle.om3.proofs.Places.{root-low, root-high, low-place, high-place, code-place, hour-range}
 
 -- What is reached at a node's halves, in any table.
@@ -37,42 +37,25 @@ module _ (l n : ℕ) (s : List ℤ) (holds : Holds n s) where
   readings v = readings-range n s holds l v
 
   module _ (v : Node) (i : InTree l v) where
-    details-left : suc (v .level) < l → leftOf l T v (R v) ≡ R (left v)
-    details-left b =
+    details-halves : suc (v .level) < l → (leftOf l T v (R v) ≡ R (left v)) × (rightOf l T v (R v) ≡ R (right v))
+    details-halves b =
         let b′ : v .level < l = omega arith in
         rw (pair-no l v b, low-place l n s v i b, high-place l n s v i b, range-halves l n s v b′)
-        (left-back (R (left v)) (R (right v)) (readings (left v)) (readings (right v)))
-
-    details-right : suc (v .level) < l → rightOf l T v (R v) ≡ R (right v)
-    details-right b =
-        let b′ : v .level < l = omega arith in
-        rw (pair-no l v b, low-place l n s v i b, high-place l n s v i b, range-halves l n s v b′)
-        (right-back (R (left v)) (R (right v)) (readings (left v)) (readings (right v)))
+        (halves-back (R (left v)) (R (right v)) (readings (left v)) (readings (right v)))
 
     abbrev held : Node → ℤ
     held u = hourOf n s (hour (start l u))
 
-    pair-left : suc (v .level) ≡ l → leftOf l T v (R v) ≡ R (left v)
+    pair-halves : suc (v .level) ≡ l → (leftOf l T v (R v) ≡ R (left v)) × (rightOf l T v (R v) ≡ R (right v))
     unfolding pairCode
-    pair-left h =
+    pair-halves h =
         let b : v .level < l = omega arith in
         rw (pair-yes l v h, code-place l n s v i h, range-halves l n s v b)
         (rw (hour-range l n s (left v) h, hour-range l n s (right v) h)
-        (first-back (held (left v)) (held (right v))))
+        (hours-back (held (left v)) (held (right v))))
 
-    pair-right : suc (v .level) ≡ l → rightOf l T v (R v) ≡ R (right v)
-    unfolding pairCode
-    pair-right h =
-        let b : v .level < l = omega arith in
-        rw (pair-yes l v h, code-place l n s v i h, range-halves l n s v b)
-        (rw (hour-range l n s (left v) h, hour-range l n s (right v) h)
-        (second-back (held (left v)) (held (right v))))
-
-    pub step-left : v .level < l → leftOf l T v (R v) ≡ R (left v)
-    step-left b = ⊎-elim pair-left details-left (eq-or-lt-of-le b)
-
-    pub step-right : v .level < l → rightOf l T v (R v) ≡ R (right v)
-    step-right b = ⊎-elim pair-right details-right (eq-or-lt-of-le b)
+    step-halves : v .level < l → (leftOf l T v (R v) ≡ R (left v)) × (rightOf l T v (R v) ≡ R (right v))
+    step-halves b = ⊎-elim pair-halves details-halves (eq-or-lt-of-le b)
 
   module _ (o : 1 ≤ l) where
     root-range : rootRange (coefficientAt T 0) (coefficientAt T 1) ≡ R root
@@ -89,6 +72,6 @@ module _ (l n : ℕ) (s : List ℤ) (holds : Holds n s) where
         let i : InTree l v = record { deep = omega arith; among = b′ } in
         let up = reached-range j (k / 2) (i .deep) b′ in
         ⊎-elim
-        (λ e. rw (← e) (reached-left l T v ∙ rw up (step-left v i le)))
-        (λ e. rw (← e) (reached-right l T v ∙ rw up (step-right v i le)))
+        (λ e. rw (← e) (reached-left l T v ∙ rw up (step-halves v i le .0)))
+        (λ e. rw (← e) (reached-right l T v ∙ rw up (step-halves v i le .1)))
         (even-or-odd k)

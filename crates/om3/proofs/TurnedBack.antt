@@ -7,8 +7,8 @@ use Rattle.words.specs.declared.{Range.Range, Range.the-variants.Empty, Range.t
 use Rattle.om3.specs.Document.{hour, hourOf, Node, InTree, number, root, left, right, start, hourRange, isEmpty}
 use Rattle.om3.specs.Document.{rangeOf, Table, pairCode, codeOfPlace, tableOf, coefficientAt, lowDetailAt}
 use Rattle.om3.specs.Document.{highDetailAt, codeAt, reachedAt, reached, turnedBack, soundTable}
-use Rattle.om3.proofs.{Tests.even-or-odd, Lists.map-up-length, Lists.map-up-from-0, Levels.half-pow}
-use Rattle.om3.proofs.{Nodes.numbered, Ranges.low-hour, Ranges.range-halves, SoundDetails.root-values}
+use Rattle.om3.proofs.{Lists.map-up-length, Lists.map-up-from-0, Levels.half-pow}
+use Rattle.om3.proofs.{Nodes.detail-places, Ranges.low-hour, Ranges.range-halves, SoundDetails.root-values}
 use Rattle.om3.proofs.Nodes.{root-in, left-in, right-in, start-hour, node-of-number}
 use Rattle.om3.proofs.Places.{root-low, root-high, low-place, high-place, hour-range}
 use Rattle.om3.proofs.SoundTables.{root-sound, node-details, left-details, right-details, node-coded}
@@ -63,31 +63,15 @@ module _ (l n : ℕ) (t : Table) (ok : soundTable l n t ≡ true) (o : 1 ≤ l) 
 
   -- The details of a node that is not a pair are those of the table.
   module _ (v : Node) (i : InTree l v) (h : suc (v .level) < l) where
-    pub low-same : lowDetailAt (tableOf l n S) (number v) ≡ lowDetailAt t (number v)
-    low-same =
+    details-back : (lowDetailAt (tableOf l n S) (number v) ≡ lowDetailAt t (number v))
+        × (highDetailAt (tableOf l n S) (number v) ≡ highDetailAt t (number v))
+    details-back =
         let b : v .level < l = omega arith in
         let p = readings-reached l n t ok v i in
-        low-place l n S v i h
-        ∙ rw (
-          range-reached (left v) (left-in i b),
-          range-reached (right v) (right-in i b),
-          left-details l n t ok v i p h,
-          right-details l n t ok v i p h,
-        )
-        (node-details l n t ok v i p h .low)
-
-    pub high-same : highDetailAt (tableOf l n S) (number v) ≡ highDetailAt t (number v)
-    high-same =
-        let b : v .level < l = omega arith in
-        let p = readings-reached l n t ok v i in
-        high-place l n S v i h
-        ∙ rw (
-          range-reached (left v) (left-in i b),
-          range-reached (right v) (right-in i b),
-          left-details l n t ok v i p h,
-          right-details l n t ok v i p h,
-        )
-        (node-details l n t ok v i p h .high)
+        let d = node-details l n t ok v i p h in
+        let L = range-reached (left v) (left-in i b) ∙ left-details l n t ok v i p h in
+        let R = range-reached (right v) (right-in i b) ∙ right-details l n t ok v i p h in
+        (low-place l n S v i h ∙ rw (L, R) (d .low), high-place l n S v i h ∙ rw (L, R) (d .high))
 
   -- The code of a pair is that of the table.
   held-back : (u : Node) → InTree l u → u .level ≡ l → hourOf n S (hour (start l u)) ≡ lowOf (reached l t u)
@@ -109,17 +93,7 @@ module _ (l n : ℕ) (t : Table) (ok : soundTable l n t ≡ true) (o : 1 ≤ l) 
 
   -- So is what stands at each place.
   details-same : (p : ℕ) → 2 ≤ p → p < 2 ^ l → coefficientAt (tableOf l n S) p ≡ coefficientAt t p
-  details-same p two b =
-      let e : l ≡ suc (l - 1) = omega arith in
-      let b′ : p < 2 ^ suc (l - 1) = rw e at b in
-      let w = numbered (l - 1) (p / 2) (omega arith) (omega (arith, two-pow-succ (l - 1))) in
-      let v = w .node in
-      let i : InTree l v = record { deep = omega (arith, w .above); among = w .low } in
-      let h : suc (v .level) < l = omega (arith, w .above) in
-      ⊎-elim
-      (λ z. let y : 2 * number v .0 ≡ p = omega (arith, w .numbered) in rw (← y) (low-same v i h))
-      (λ z. let y : 2 * number v .0 + 1 ≡ p = omega (arith, w .numbered) in rw (← y) (high-same v i h))
-      (even-or-odd p)
+  details-same = detail-places l (λ p. coefficientAt (tableOf l n S) p ≡ coefficientAt t p) o details-back
 
   root-same : rangeOf l n S root ≡ reached l t root
   root-same = range-reached root (root-in l)
