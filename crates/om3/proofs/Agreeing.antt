@@ -1,6 +1,7 @@
 -- Two tables that agree at the places of a table of l levels reach the same ranges, and one is sound if the other is:
 -- what lies beyond is not looked at. Assumes nothing.
-use Rattle.kit.proofs.{_≡_, refl, _∙_, true, cond, ⊎-elim, ℕ, zero, suc, _+_, _-_, _*_, _/_, _%_, _^_, _≤_, _<_, two-pow-succ}
+use Rattle.kit.proofs.{_≡_, refl, _∙_, true, cond, ⊎-elim, ℕ, zero, suc, _+_, _-_, _*_, _/_, _%_, _^_, _≤_, _<_}
+use Rattle.kit.proofs.{two-pow-succ}
 use Rattle.kit.proofs.{eq-or-lt-of-le, arith, eqb, getD, pow-pos, pow-mono}
 use Rattle.words.specs.declared.Range.{Range}
 use Rattle.om3.specs.Document.{every, Node, InTree, number, Table, coefficientAt, lowDetailAt, highDetailAt}

@@ -7,7 +7,8 @@ use Rattle.signed.proofs.{clash}
 use Rattle.words.specs.declared.Column.{Column}
 use Rattle.om3.specs.Document.{keep, Node, InTree, root, left, right, Table, nodesBelow, allNodes, hasReading}
 use Rattle.om3.specs.Document.{shares, inside, opened, visited, openedNodes, isInner, innerNodes, insideNodes}
-use Rattle.om3.proofs.{Tests.and-left, Tests.chosen, Intervals.inside-shares, Opened.opened-opens, Opened.unopened-if}
+use Rattle.om3.proofs.{Tests.and-left, Tests.chosen, Intervals.inside-shares, Opened.opened-opens}
+use Rattle.om3.proofs.{Opened.unopened-if}
 use Rattle.om3.proofs.Listed.{All, all-append, all-map}
 
 -- What is kept of nodes that are all of a kind is of that kind, and passes the test.

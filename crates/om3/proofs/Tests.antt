@@ -1,5 +1,6 @@
 -- Tests taken apart and put together, and cases of natural numbers. Assumes nothing.
-use Rattle.kit.proofs.{_≡_, refl, sym, _∙_, Bool, true, false, cond, _&&_, _||_, _⊎_, ⊎-elim, inl, inr, ℕ, _+_, _-_, _*_}
+use Rattle.kit.proofs.{_≡_, refl, sym, _∙_, Bool, true, false, cond, _&&_, _||_, _⊎_, ⊎-elim, inl, inr, ℕ, _+_, _-_}
+use Rattle.kit.proofs.{_*_}
 use Rattle.kit.proofs.{_/_, _%_, _≤_, _<_, eq-zero-or-pos, arith, ℤ, leZ, _≤ℤ_}
 use Rattle.signed.proofs.{clash, signed}
 

@@ -44,7 +44,8 @@ loop-less : tie.Need-loop-less Inv-loop μ-loop
 loop-less c = laws.right-falls (halved (c .before .before .before .before))
 
 loop-again : tie.Need-loop-again Inv-loop μ-loop
-loop-again c = laws.goes-right (halved (c .before .before .before .before)) (c .before .touches2 .ensures) (c .if3 .left)
+loop-again c =
+    laws.goes-right (halved (c .before .before .before .before)) (c .before .touches2 .ensures) (c .if3 .left)
 
 pub narrow-spec : {M : Type 1} → statement M
 narrow-spec =
