@@ -7,6 +7,7 @@ use Rattle.words.specs.{largestHours, Readings}
 use Rattle.words.specs.declared.Range.{Range}
 use Rattle.om3.specs.Document.{levels, Node, InTree, left, right, start, width}
 use Rattle.om3.proofs.Levels.{2≤P, P-even}
+use Rattle.node.specs.Located.{Located}
 use Rattle.node.proofs.Located.{above-pairs, pair-width, left-located, right-located}
 use Rattle.sizes.specs.Lent.{TableLent}
 use Rattle.walking.specs.Nodes.{LentTo, Below, isPairOf, leftReached, rightReached}
@@ -78,28 +79,24 @@ module _ {stop : ℕ} {cs : List ℤ} {ks : List ℕ} {at : Reached} (below : Be
         }
 
   -- Its halves are nodes of the same table.
+  half-below : {half : Reached} (u : Node) → Located (below .levels) u (half .id .0) (half .from .0) (half .hours)
+      → Readings (half .range) → Below stop cs ks half
+  half-below u located p =
+      record {
+        levels = below .levels;
+        node = u;
+        most = below .most;
+        table = below .table;
+        located = located;
+        readings = p;
+      }
+
   module _ (two : 2 ≤ at .hours) (r : Range) (p : Readings r) where
     pub left-below : Below stop cs ks (leftReached at r)
-    left-below =
-        record {
-          levels = below .levels;
-          node = left v;
-          most = below .most;
-          table = below .table;
-          located = left-located (below .located) two;
-          readings = p;
-        }
+    left-below = half-below (left v) (left-located (below .located) two) p
 
     pub right-below : Below stop cs ks (rightReached at r)
-    right-below =
-        record {
-          levels = below .levels;
-          node = right v;
-          most = below .most;
-          table = below .table;
-          located = right-located (below .located) two;
-          readings = p;
-        }
+    right-below = half-below (right v) (right-located (below .located) two) p
 
 -- The inner nodes of two visits.
 module _ (stop : ℕ) (cs : List ℤ) (ks : List ℕ) where

@@ -14,7 +14,7 @@ use Rattle.node.specs.declared.Halves.{Halves}
 use Rattle.examining.proofs.Answers.{Stepped, stepped, not-stepped}
 use Rattle.walking.specs.Nodes.{At, Below, leftReached, rightReached, touchesOf, insideOf, openedOf}
 use Rattle.walking.specs.Seen.{unopenedOf, bothSeen, seenOf}
-use Rattle.walking.specs.Visiting.{SteppedDown, StopsAt, Visits, VisitedFrom}
+use Rattle.walking.specs.Visiting.{SteppedDown, visitCheck, StopsAt, Visits, VisitedFrom}
 use Rattle.walking.specs.declared.{Reached.Reached, Seen.Seen, Visited.Visited}
 use Rattle.walking.proofs.Lending.{some-hours, left-below, right-below, alone-below, both-below}
 use Rattle.walking.proofs.Touching.{touches-is, inside-is, opened-is, left-at, right-at}
@@ -33,6 +33,19 @@ module _ (n : ℕ) (cs : List ℤ) (ks : List ℕ) (x : Column) (stop : ℕ) whe
 
   abbrev From : ℕ → Reached → Visited → Type 0
   From c at r = VisitedFrom n cs ks x stop c at r
+
+  -- A visit that says of a node that it is unsound saw nothing.
+  says-unsound : {c : ℕ} {at : Reached} {i : NodeId}
+      → ((l d : ℕ) (v : Node) → StopsAt l d x stop → At l T v at → visitCheck (Visited.Unsound i)
+      ≡ examineNodes l n T (keep (opened l T x d) (nodesBelow (suc (l - v .level)) v)))
+      → From c at (Visited.Unsound i)
+  says-unsound first =
+      record {
+        few = λ s e. absurd (not-through e);
+        below = λ s e. absurd (not-through e);
+        visits = λ l d v asked here seen.
+            record { examined = first l d v asked here; saw = λ s e. absurd (not-through e) };
+      }
 
   -- A node that is not opened.
   module _ (c : ℕ) (at : Reached) (closed : openedOf x stop at ≡ false) where
@@ -133,17 +146,10 @@ module _ (n : ℕ) (cs : List ℤ) (ks : List ℕ) (x : Column) (stop : ℕ) whe
 
     pub node-unsound : SteppedDown n cs ks at Halves.Unsound → From c at (Visited.Unsound (at .id))
     node-unsound step =
-        record {
-          few = λ s e. absurd (not-through e);
-          below = λ s e. absurd (not-through e);
-          visits = λ l d v asked here seen.
-              let no = not-stepped (soundNode l n T v) _ _ (sym (step .halves l v here)) in
-              let same : number v ≡ at .id = ap (λ (k : ℕ). record { 0 = k }) (here .located .numbered) in
-              record {
-                examined = sym (opened-checks l d v asked here ∙ rw (no, same));
-                saw = λ s e. absurd (not-through e);
-              };
-        }
+        says-unsound (λ l d v asked here.
+        let no = not-stepped (soundNode l n T v) _ _ (sym (step .halves l v here)) in
+        let same : number v ≡ at .id = ap (λ (k : ℕ). record { 0 = k }) (here .located .numbered) in
+        sym (opened-checks l d v asked here ∙ rw (no, same)))
 
     -- It is sound, and these are its halves.
     module _ (r q : Range) (step : SteppedDown n cs ks at (Halves.Sound r q)) where
@@ -187,17 +193,9 @@ module _ (n : ℕ) (cs : List ℤ) (ks : List ℕ) (x : Column) (stop : ℕ) whe
 
       pub left-unsound : (i : NodeId) → From (c + 1) first (Visited.Unsound i) → From c at (Visited.Unsound i)
       left-unsound i F =
-          record {
-            few = λ s e. absurd (not-through e);
-            below = λ s e. absurd (not-through e);
-            visits = λ l d v asked here seen.
-                record {
-                  examined =
-                      sym (halves-check l d v asked here
-                      ∙ rw (sym (left-visits l d v asked here (Visited.Unsound i) F .examined)));
-                  saw = λ s e. absurd (not-through e);
-                };
-          }
+          says-unsound (λ l d v asked here.
+          sym (halves-check l d v asked here
+          ∙ rw (sym (left-visits l d v asked here (Visited.Unsound i) F .examined))))
 
       module _ (a : Seen) (F : From (c + 1) first (Visited.Through a)) where
         left-passes : (l d : ℕ) (v : Node) (asked : StopsAt l d x stop) (here : At l T v at)
@@ -207,17 +205,9 @@ module _ (n : ℕ) (cs : List ℤ) (ks : List ℕ) (x : Column) (stop : ℕ) whe
 
         pub right-unsound : (i : NodeId) → From (a .opened) second (Visited.Unsound i) → From c at (Visited.Unsound i)
         right-unsound i G =
-            record {
-              few = λ s e. absurd (not-through e);
-              below = λ s e. absurd (not-through e);
-              visits = λ l d v asked here seen.
-                  record {
-                    examined =
-                        right-visits l d v asked here (a .opened) (Visited.Unsound i) G .examined
-                        ∙ sym (left-passes l d v asked here);
-                    saw = λ s e. absurd (not-through e);
-                  };
-            }
+            says-unsound (λ l d v asked here.
+            right-visits l d v asked here (a .opened) (Visited.Unsound i) G .examined
+            ∙ sym (left-passes l d v asked here))
 
         pub both-seen : (b : Seen) → From (a .opened) second (Visited.Through b)
             → From c at (Visited.Through (bothSeen a b))
