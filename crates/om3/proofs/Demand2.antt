@@ -1,14 +1,15 @@
 -- A table is sound exactly if some series has it, and that series is the one it turns back to. Assumes nothing.
 use Rattle.kit.proofs.{_≡_, refl, sym, ap, _∙_, true, false, _||_, List, _↔_, ℕ, _/_, _^_, _≤_, _<_, le-refl, arith, ℤ}
-use Rattle.kit.proofs.{pos, negℤ, getD, take, ext-getD, getD-take, length-take-le, take-all, lt-ltb}
+use Rattle.kit.proofs.{pos, negℤ, getD, take, ext-getD, getD-take, take-all, lt-ltb}
 use Rattle.signed.proofs.{signed}
 use Rattle.words.specs.{largestHours, largestReading, gap, lowOf, Readings}
 use Rattle.words.specs.declared.{Range.Range, Range.the-variants.Empty, Range.the-variants.Held}
 use Rattle.om3.specs.Document.{isReading, isGap, Series, levels, P, hour, hourOf, rangeOf, Node, InTree, Table}
 use Rattle.om3.specs.Document.{coefficient, codeOfPlace, tableOf, HasTable, reachedAt, reached, turnedBack}
 use Rattle.om3.specs.Document.{soundTable, tableShort}
-use Rattle.om3.proofs.{Tests.left-true, Tests.is-between, Lists.map-up-length, Lists.map-up-from-0}
-use Rattle.om3.proofs.{Levels.levels-some, Levels.n≤P, Nodes.start-hour, Ranges.low-hour, Places.hour-range}
+use Rattle.om3.proofs.{Tests.left-true, Tests.is-between, Lists.map-up-length, Lists.take-made}
+use Rattle.om3.proofs.{Levels.levels-some, Levels.n≤P, Nodes.start-hour, Ranges.low-hour}
+use Rattle.om3.proofs.Places.{coefficient-place, hour-range}
 use Rattle.om3.proofs.{Reached.reached-range, MadeSound.made-sound, SoundTables.readings-reached}
 use Rattle.om3.proofs.{Lent.coefficients-there, Lent.codes-there}
 use Rattle.om3.proofs.Agreeing.{Agree, reached-agrees, sound-agrees}
@@ -91,28 +92,17 @@ module _ (n : ℕ) where
       abbrev series : List ℤ
       series = turnedBack l t n
 
-      same-coefficients : take (P n) (t .coefficients) ≡ tableOf l n series .coefficients
-      same-coefficients =
-          let a = length-take-le (P n) (t .coefficients) (coefficients-there n t room) in
-          ext-getD (pos 0) (take (P n) (t .coefficients)) (tableOf l n series .coefficients)
-          (a ∙ sym (map-up-length (coefficient l n series) 0 (P n)))
-          (λ p h.
-          let h′ : p < P n = omega (arith, a) in
-          getD-take (P n) (t .coefficients) p (pos 0) h′ ∙ sym (coefficient-same l n t ok (levels-some n) p h′))
-
-      same-codes : take (P n / 2) (t .codes) ≡ tableOf l n series .codes
-      same-codes =
-          let b = length-take-le (P n / 2) (t .codes) (codes-there n t room) in
-          ext-getD 0 (take (P n / 2) (t .codes)) (tableOf l n series .codes)
-          (b ∙ sym (map-up-length (codeOfPlace l n series) 0 (P n / 2)))
-          (λ p h.
-          let h′ : p < P n / 2 = omega (arith, b) in
-          getD-take (P n / 2) (t .codes) p 0 h′
-          ∙ sym
-          (map-up-from-0 (codeOfPlace l n series) 0 (P n / 2) p h′ ∙ codes-same l n t ok (levels-some n) p h′))
-
       pub turned-has : HasTable n (turnedBack l t n) t
-      turned-has = record { coefficients = same-coefficients; codes = same-codes }
+      turned-has =
+          let o = levels-some n in
+          record {
+            coefficients =
+                take-made (coefficient l n series) (pos 0) (P n) (t .coefficients) (coefficients-there n t room)
+                (λ p h. sym (coefficient-same l n t ok o p h) ∙ coefficient-place l n series p h);
+            codes =
+                take-made (codeOfPlace l n series) 0 (P n / 2) (t .codes) (codes-there n t room)
+                (λ p h. sym (codes-same l n t ok o p h));
+          }
 
   -- The table of a series turned back is the series: each reading and each gap at its own hour.
   pub made-turned : (s : List ℤ) → Series n s → turnedBack l (tableOf l n s) n ≡ s

@@ -75,13 +75,13 @@ root-back (Held a b) p =
     rw (no-mark gapMark a (lit< tt) h)
 
 -- A pair's range and code give its two hours.
+abbrev pub hourIf : Bool → ℤ → Range
+hourIf f z = cond f Empty (Held z z)
+
+abbrev pub codeIf : Bool → Bool → Bool → ℕ
+codeIf f g h = cond f (cond g 4 3) (cond g 2 (cond h 1 0))
+
 module _ (x y : ℤ) where
-  abbrev hourIf : Bool → ℤ → Range
-  hourIf f z = cond f Empty (Held z z)
-
-  abbrev codeIf : Bool → Bool → Bool → ℕ
-  codeIf f g h = cond f (cond g 4 3) (cond g 2 (cond h 1 0))
-
   pub hours-back : (firstOfPair (both (hourRange x) (hourRange y)) (code x y) ≡ hourRange x)
       × (secondOfPair (both (hourRange x) (hourRange y)) (code x y) ≡ hourRange y)
   hours-back = by (isGap x) (isGap y) (ltZ x y) refl

@@ -12,13 +12,6 @@ use Rattle.om3.proofs.Opened.{opened-opens, opens-opened, unopened-if}
 use Rattle.om3.proofs.BelowOpened.{visited-left, visited-right, visited-root}
 
 module _ (l : ℕ) (x : Column) (v : Node) where
-  -- A node wholly inside the column shares an hour with it, since it has one.
-  pub inside-shares : inside l x v ≡ true → shares l x v ≡ true
-  inside-shares e =
-      let w = inside-within l x v e in
-      let s = width-some l x v in
-      overlap-shares l x v (record { reaches = omega arith; begins = omega arith; some = omega arith })
-
   -- A single hour that shares an hour with the column lies wholly inside it.
   hour-inside : v .level ≡ l → shares l x v ≡ true → inside l x v ≡ true
   hour-inside z e =

@@ -2,13 +2,14 @@
 -- opened nodes are of a level below the depth, inside nodes have a reading. The non-empty inside visited nodes are
 -- those of the inner range at depth l, since an inside node is not opened and shares its hours. Assumes nothing.
 use Rattle.kit.proofs.{_≡_, refl, sym, ap, fun-ext, _∙_, Bool, true, false, cond, not, _&&_, List, [], _∷_, ℕ, zero}
-use Rattle.kit.proofs.{suc, _+_, _*_, _^_, _≤_, _<_, two-pow-succ, arith}
+use Rattle.kit.proofs.{and-true, and-false, suc, _+_, _*_, _^_, _≤_, _<_, two-pow-succ, arith}
+use mathlib.Core.Bool.{and-comm}
 use Rattle.signed.proofs.{clash}
 use Rattle.words.specs.declared.Column.{Column}
 use Rattle.om3.specs.Document.{keep, Node, InTree, root, left, right, Table, nodesBelow, allNodes, hasReading}
 use Rattle.om3.specs.Document.{shares, inside, opened, visited, openedNodes, isInner, innerNodes, insideNodes}
-use Rattle.om3.proofs.{Tests.and-left, Tests.chosen, Intervals.inside-shares, Opened.opened-opens}
-use Rattle.om3.proofs.{Opened.unopened-if}
+use Rattle.om3.proofs.{Tests.and-left, Tests.chosen, Intervals.inside-shares}
+use Rattle.om3.proofs.Opened.{opened-opens, unopened-if}
 use Rattle.om3.proofs.Listed.{All, all-append, all-map}
 
 -- What is kept of nodes that are all of a kind is of that kind, and passes the test.
@@ -55,20 +56,10 @@ module _ (l : ℕ) (t : Table) (x : Column) (d : ℕ) where
 -- Of an inside node, the tests for the inner range ask beside these only what holds of it.
 inside-test : (reads within visits opens shared : Bool) → (within ≡ true → (opens ≡ false) × (shared ≡ true))
     → (reads && within && visits) ≡ (visits && not opens && reads && shared && within)
-inside-test reads true visits opens shared f = rw (f refl .0, f refl .1) (by reads visits)
-  where
-    by : (r v : Bool) → (r && true && v) ≡ (v && true && r && true && true)
-    by true true = refl
-    by true false = refl
-    by false true = refl
-    by false false = refl
-inside-test reads false visits opens shared f = by reads (visits && not opens && reads && shared)
-  where
-    by : (r m : Bool) → (r && false && visits) ≡ (m && false)
-    by true true = refl
-    by true false = refl
-    by false true = refl
-    by false false = refl
+inside-test reads true visits opens shared f =
+    rw (f refl .0, f refl .1) (simp and-true (and-comm reads visits))
+inside-test reads false visits opens shared f =
+    rw (and-false reads, and-false (visits && not opens && reads && shared))
 
 pub inside-inner : (l : ℕ) (t : Table) (x : Column) → insideNodes l t x ≡ innerNodes l t x l
 unfolding insideNodes innerNodes

@@ -2,7 +2,7 @@
 -- number that passes a test. Assumes nothing.
 use Rattle.kit.proofs.{_≡_, refl, sym, ap, _∙_, Bool, true, false, cond, List, [], _∷_, _++_, map, ⊎-elim, ℕ, zero, suc}
 use Rattle.kit.proofs.{_+_, _≤_, _<_, zero-add, add-zero, suc-add, eq-or-lt-of-le, arith, length, getD, take}
-use Rattle.kit.proofs.{length-map, take-all}
+use Rattle.kit.proofs.{length-map, take-all, ext-getD, getD-take, length-take-le}
 use Rattle.signed.proofs.{clash}
 use Rattle.om3.specs.Document.{upFrom, any, every, keep, firstFrom}
 use Rattle.om3.proofs.Tests.{and-left, and-right, neither, chosen, below-or-not}
@@ -36,6 +36,16 @@ module _ {A : Type 0} (g : ℕ → A) where
 
   pub map-up-from-0 : (d : A) (c p : ℕ) → p < c → getD (map g (upFrom 0 c)) p d ≡ g p
   map-up-from-0 d c p h = map-up-at d 0 c p h ∙ ap g (zero-add p)
+
+  -- The first k of a list that holds at each place what is made there.
+  pub take-made : (d : A) (k : ℕ) (xs : List A) → k ≤ length xs → ((p : ℕ) → p < k → getD xs p d ≡ g p)
+      → take k xs ≡ map g (upFrom 0 k)
+  take-made d k xs room same =
+      let size = length-take-le k xs room in
+      ext-getD d (take k xs) (map g (upFrom 0 k)) (size ∙ sym (map-up-length 0 k))
+      (λ p h.
+      let h′ : p < k = omega (arith, size) in
+      getD-take k xs p d h′ ∙ same p h′ ∙ sym (map-up-from-0 d k p h′))
 
 -- A list of which k can be taken has k.
 pub take-room : {A : Type 0} (k : ℕ) (xs : List A) → length (take k xs) ≡ k → k ≤ length xs

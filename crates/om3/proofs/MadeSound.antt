@@ -12,7 +12,7 @@ use Rattle.om3.specs.Document.{soundDetails, soundCode, gapFrom, soundNo
 use Rattle.om3.proofs.Tests.{both-true, left-true, right-true, is-between}
 use Rattle.om3.proofs.{Nodes.pair-yes, Nodes.pair-no, Ranges.range-halves, Ranges.readings-range}
 use Rattle.om3.proofs.{Reached.reached-range, NodeLists.table-from-each}
-use Rattle.om3.proofs.Down.{halves-back, hours-back}
+use Rattle.om3.proofs.Down.{halves-back, hourIf, codeIf, hours-back}
 use Rattle.om3.proofs.Places.{root-low, root-high, low-place, high-place, code-place, hour-range}
 
 root-sound : (r : Range) → Readings r → soundRootValues (lowOf r) (highOf r) ≡ true
@@ -53,12 +53,6 @@ details-sound (Held a b) (Held c d) p q = held-sound a b c d p q
 code-sound : (x y : ℤ) → soundCode (both (hourRange x) (hourRange y)) (code x y) ≡ true
 code-sound x y = by (isGap x) (isGap y) (ltZ x y) refl
   where
-    hourIf : Bool → ℤ → Range
-    hourIf f z = cond f Empty (Held z z)
-
-    codeIf : Bool → Bool → Bool → ℕ
-    codeIf f g h = cond f (cond g 4 3) (cond g 2 (cond h 1 0))
-
     by : (f g h : Bool) → ltZ x y ≡ h → soundCode (both (hourIf f x) (hourIf g y)) (codeIf f g h) ≡ true
     by true true h e = refl
     by true false h e = true-eqZ y y refl

@@ -6,7 +6,7 @@ use Rattle.words.specs.declared.{Column.Column, Range.Range, Range.the-variants
 use Rattle.om3.specs.Document.{keep, Node, root, left, right, isEmpty, both, Table, reached, nodesBelow}
 use Rattle.om3.specs.Document.{hasReading, shares, inside, opened, visited, rangeOver, isOuter, outer, isInner}
 use Rattle.om3.specs.Document.{innerNodes, inner}
-use Rattle.om3.proofs.{Ranges.both-empty, EachVisited.inside-shares}
+use Rattle.om3.proofs.{Ranges.both-empty, Intervals.inside-shares}
 use Rattle.om3.proofs.BelowOpened.{range-append, outer-kept, outer-end, inner-kept, inner-end}
 
 -- Where an empty range gives itself, it need not be asked whether there is a reading.

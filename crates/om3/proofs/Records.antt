@@ -2,12 +2,12 @@
 -- where the bytes before it end; the header has seven bytes and each coefficient three. Assumes nothing.
 use Rattle.kit.proofs.{_≡_, refl, sym, ap, _∙_, false, List, [], _∷_, _++_, map, flatMap, ℕ, zero, suc, _+_, _*_, _/_}
 use Rattle.kit.proofs.{_^_, _≤_, _<_, arith, ℤ, pos, length, getD, take, drop, length-append, length-take-le, getD-take}
-use Rattle.kit.proofs.{drop-at, drop-drop, take-all, ext-getD}
+use Rattle.kit.proofs.{drop-at, drop-drop, take-all}
 use Rattle.words.specs.{largestHours, version}
 use Rattle.om3.specs.Document.{upFrom, P, Table, tableShort, Bytes, bytesOf, InThree, threeBytes, signedFrom}
 use Rattle.om3.specs.Document.{bytesAt, recordLength, recordSize, recordOf, headerOf, headerSize, lengthIn}
 use Rattle.om3.specs.Document.{versionIn, hoursIn, coefficientIn, tableIn}
-use Rattle.om3.proofs.{Lists.map-up-length, Lists.map-up-from-0, Levels.P-most, Lent.coefficients-there}
+use Rattle.om3.proofs.{Lists.take-made, Levels.P-most, Lent.coefficients-there}
 use Rattle.om3.proofs.{Lent.codes-there, ThreeBytes.three-back, ThreeBytes.threes-size}
 use Rattle.om3.proofs.Bytes.{bytes-length, bytes-back, bytes-take, bytes-append, bytes-are}
 
@@ -120,13 +120,8 @@ module _ (n : ℕ) (t : Table) where
 
       record-coefficients : map (coefficientIn r) (upFrom 0 (P n)) ≡ take (P n) (t .coefficients)
       record-coefficients =
-          let size = map-up-length (coefficientIn r) 0 (P n) in
-          ext-getD (pos 0) (map (coefficientIn r) (upFrom 0 (P n))) (take (P n) (t .coefficients))
-          (size ∙ sym taken-length)
-          (λ p h.
-          let h′ : p < P n = omega (arith, size) in
-          map-up-from-0 (coefficientIn r) (pos 0) (P n) p h′ ∙ record-coefficient-in p h′
-          ∙ sym (getD-take (P n) (t .coefficients) p (pos 0) h′))
+          sym (take-made (coefficientIn r) (pos 0) (P n) (t .coefficients) (coefficients-there n t room)
+          (λ p h. sym (record-coefficient-in p h)))
 
       pub record-table-in : n ≤ largestHours
           → tableIn r ≡ record { coefficients = take (P n) (t .coefficients); codes = take (P n / 2) (t .codes) }
