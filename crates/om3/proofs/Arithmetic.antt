@@ -4,7 +4,7 @@ use Rattle.kit.proofs.{_+_, _-_, _*_, _/_, _%_, _≤_, _<_, suc-mul, le-div-iff
 use Rattle.kit.proofs.{ltb, getD, le-leb, ltb-true, ltb-false}
 use Rattle.om3.specs.Document.{every, ceil, ascii, zeroDigit, digit, isDigit, withDigit, valueOf, digitsOf}
 use Rattle.om3.specs.Document.{decimal}
-use Rattle.om3.proofs.{Tests.below-or-not, Tests.both-true, NodeLists.every-append}
+use Rattle.om3.proofs.{Tests.chosen, Tests.below-or-not, Tests.both-true, NodeLists.every-append}
 
 -- m / w rounded up, times w: at least m, and less than m + w.
 module _ (m w : ℕ) (some : 1 ≤ w) where
@@ -22,11 +22,7 @@ module _ (m w : ℕ) (some : 1 ≤ w) where
 module _ (Q : ℕ → List ℕ → Type 0) (one : (d : ℕ) → d < 10 → Q d (digit d ∷ []))
     (further : (m : ℕ) (ds : List ℕ) → 10 ≤ m → Q (m / 10) ds → Q m (ds ++ digit (m % 10) ∷ [])) where
   either : {m c : ℕ} {ds es : List ℕ} → (m < c → Q m ds) → (c ≤ m → Q m es) → Q m (cond (ltb m c) ds es)
-  either {m} {c} {ds} {es} f g = by (ltb m c) refl
-    where
-      by : (b : Bool) → ltb m c ≡ b → Q m (cond b ds es)
-      by true e = f (ltb-true m c e)
-      by false e = g (ltb-false m c e)
+  either {m} {c} f g = chosen (Q m) (ltb m c) (λ e. f (ltb-true m c e)) (λ e. g (ltb-false m c e))
 
   of-digits : (more m : ℕ) → m ≤ more → Q m (digitsOf more m)
   unfolding digitsOf

@@ -10,8 +10,8 @@ pub mod Ranges
 pub mod Down
 pub mod Places
 pub mod Reached
-pub mod NodeLists
 pub mod Listed
+pub mod NodeLists
 pub mod Filled
 pub mod Writes
 pub mod Examined
