@@ -1,7 +1,7 @@
 -- Rounding up is the ceiling, and the digits that are printed for a number are its decimal digits. Assumes nothing.
-use Rattle.kit.proofs.{_≡_, refl, _∙_, Bool, true, false, cond, ⊎-elim, List, [], _∷_, _++_, foldl-append, ℕ, zero, suc}
-use Rattle.kit.proofs.{_+_, _-_, _*_, _/_, _%_, _≤_, _<_, suc-mul, le-div-iff-mul-le, div-mul-le-self, le-refl, arith}
-use Rattle.kit.proofs.{ltb, getD, le-leb, ltb-true, ltb-false}
+use Rattle.kit.proofs.{_≡_, refl, _∙_, true, cond, ⊎-elim, List, [], _∷_, _++_, foldl-append, ℕ, zero, suc, _+_, _-_}
+use Rattle.kit.proofs.{_*_, _/_, _%_, _≤_, _<_, suc-mul, le-div-iff-mul-le, div-mul-le-self, le-refl, arith, ltb, getD}
+use Rattle.kit.proofs.{le-leb, ltb-true, ltb-false}
 use Rattle.om3.specs.Document.{every, ceil, ascii, zeroDigit, digit, isDigit, withDigit, valueOf, digitsOf}
 use Rattle.om3.specs.Document.{decimal}
 use Rattle.om3.proofs.{Tests.chosen, Tests.below-or-not, Tests.both-true, NodeLists.every-append}

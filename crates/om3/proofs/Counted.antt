@@ -1,7 +1,7 @@
 -- The count at depth 0 is at most 1, and at any other depth d at most 4·d − 1: at each level only the node that holds
 -- the column's first hour and the one that holds its last can be opened, and node 1 is both. Assumes nothing.
-use Rattle.kit.proofs.{_≡_, refl, sym, ap, _∙_, Bool, true, false, cond, ⊎-elim, ℕ, zero, suc, _+_, _-_, _*_, _≤_, _<_}
-use Rattle.kit.proofs.{arith, length, length-append}
+use Rattle.kit.proofs.{_≡_, refl, sym, ap, _∙_, Bool, true, false, ⊎-elim, ℕ, zero, suc, _+_, _-_, _*_, _≤_, _<_, arith}
+use Rattle.kit.proofs.{length, length-append}
 use Rattle.signed.proofs.{clash}
 use Rattle.words.specs.declared.Column.{Column}
 use Rattle.om3.specs.Document.{keep, Node, root, left, right, width, start, Table, nodesBelow, noHour, opened}

@@ -1,6 +1,6 @@
 -- A table is sound exactly if some series has it, and that series is the one it turns back to. Assumes nothing.
 use Rattle.kit.proofs.{_≡_, refl, sym, ap, _∙_, true, false, _||_, List, _↔_, ℕ, _/_, _^_, _≤_, _<_, le-refl, arith, ℤ}
-use Rattle.kit.proofs.{pos, negℤ, getD, take, ext-getD, getD-take, take-all, lt-ltb}
+use Rattle.kit.proofs.{pos, negℤ, getD, ext-getD, getD-take, take-all, lt-ltb}
 use Rattle.signed.proofs.{signed}
 use Rattle.words.specs.{largestHours, largestReading, gap, lowOf, Readings}
 use Rattle.words.specs.declared.{Range.Range, Range.the-variants.Empty, Range.the-variants.Held}

@@ -1,8 +1,8 @@
 -- Where the ranges reached in a table are those of a series' hours, the outer range of a column at any depth covers
 -- each reading of the column, the inner range lies within what a look through its hours gives, and at depth l both are
 -- that. Assumes nothing.
-use Rattle.kit.proofs.{_≡_, refl, Bool, true, false, cond, List, map, ⊎-elim, ℕ, _+_, _-_, _^_, _≤_, _<_, arith, ℤ}
-use Rattle.words.specs.declared.{Column.Column, Range.Range, Range.the-variants.Empty}
+use Rattle.kit.proofs.{_≡_, true, false, List, map, ⊎-elim, ℕ, _+_, _-_, _^_, _≤_, _<_, arith, ℤ}
+use Rattle.words.specs.declared.{Column.Column, Range.Range}
 use Rattle.om3.specs.Document.{isGap, hour, hourOf, Node, InTree, left, right, width, start, hours, look, rangeOf}
 use Rattle.om3.specs.Document.{Table, reached, inColumn, columnHours, inside, outer, inner, Covers, LiesWithin}
 use Rattle.om3.proofs.{Tests.below-or-not, Tests.chosen, Ranges.range-halves, Opened.node-cut}

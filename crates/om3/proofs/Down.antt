@@ -1,6 +1,6 @@
 -- Going down from a node's range with its details gives the ranges of its halves, and only they do. Assumes nothing.
-use Rattle.kit.proofs.{_≡_, refl, Bool, true, false, cond, ℕ, _+_, _-_, _<_, lit<, ℤ, pos, negsuc, _+ℤ_, _-ℤ_, leZ, ltZ}
-use Rattle.kit.proofs.{_≤ℤ_, ne-eqb}
+use Rattle.kit.proofs.{_≡_, refl, Bool, true, false, cond, ℕ, _+_, _-_, _<_, lit<, ℤ, pos, negsuc, _-ℤ_, leZ, ltZ, _≤ℤ_}
+use Rattle.kit.proofs.{ne-eqb}
 use Rattle.signed.specs.{minZ, maxZ, isNumber}
 use Rattle.signed.proofs.{up, dn, add-parts, sub-parts, min-parts, max-parts, signed}
 use Rattle.words.specs.{largestDetail, leftMark, rightMark, gapMark, lowOf, highOf, Readings}

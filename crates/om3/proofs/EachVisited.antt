@@ -7,7 +7,7 @@ use Rattle.words.specs.declared.Column.{Column}
 use Rattle.om3.specs.Document.{Node, InTree, root, left, right, Table, hasReading, shares, inside, opened}
 use Rattle.om3.specs.Document.{visited}
 use Rattle.om3.proofs.Nodes.{root-in, left-in, right-in, width-hour}
-use Rattle.om3.proofs.Intervals.{width-some, shares-overlap, overlap-shares, inside-within, within-inside}
+use Rattle.om3.proofs.Intervals.{shares-overlap, within-inside}
 use Rattle.om3.proofs.Opened.{opened-opens, opens-opened, unopened-if}
 use Rattle.om3.proofs.BelowOpened.{visited-left, visited-right, visited-root}
 

@@ -1,7 +1,7 @@
 -- Of the hours of a node, those that lie in a column are all of them, none of them, or as many as its halves have; of
 -- node 1 they are the hours of the column. Assumes nothing.
-use Rattle.kit.proofs.{_≡_, refl, sym, ap, _∙_, Bool, true, false, cond, List, [], _∷_, _++_, append-nil, ℕ, _-_, _^_}
-use Rattle.kit.proofs.{_≤_, _<_, arith, ℤ}
+use Rattle.kit.proofs.{_≡_, refl, sym, ap, _∙_, Bool, true, false, List, [], _∷_, _++_, append-nil, ℕ, _-_, _^_, _≤_}
+use Rattle.kit.proofs.{_<_, arith, ℤ}
 use Rattle.words.specs.declared.{Timestamp.Timestamp, Answer.Answer, Answer.the-variants.NoReading}
 use Rattle.words.specs.declared.{Answer.the-variants.Found, Column.Column}
 use Rattle.om3.specs.Document.{any, keep, hoursFrom, Node, root, left, right, hours, inColumn, columnHours}

@@ -1,8 +1,8 @@
 -- The nodes listed below a node of the tree lie in the tree, and those kept of a list pass the test they are kept by:
 -- opened nodes are of a level below the depth, inside nodes have a reading. The non-empty inside visited nodes are
 -- those of the inner range at depth l, since an inside node is not opened and shares its hours. Assumes nothing.
-use Rattle.kit.proofs.{_≡_, refl, sym, ap, fun-ext, _∙_, Bool, true, false, cond, not, _&&_, List, [], _∷_, ℕ, zero}
-use Rattle.kit.proofs.{and-true, and-false, suc, _+_, _*_, _^_, _≤_, _<_, two-pow-succ, arith}
+use Rattle.kit.proofs.{_≡_, refl, sym, ap, fun-ext, _∙_, Bool, true, false, not, _&&_, List, [], _∷_, ℕ, zero, and-true}
+use Rattle.kit.proofs.{and-false, suc, _+_, _*_, _^_, _≤_, _<_, two-pow-succ, arith}
 use mathlib.Core.Bool.{and-comm}
 use Rattle.signed.proofs.{clash}
 use Rattle.words.specs.declared.Column.{Column}

@@ -1,9 +1,9 @@
 -- Where what is reached at each node is the range of its hours, the answer of a node's hours is joined from those of
 -- its halves, and a node has a reading exactly if its hours answer with one. Assumes nothing.
-use Rattle.kit.proofs.{_≡_, refl, sym, ap, _∙_, Bool, true, false, cond, not, List, [], _∷_, _++_, ℕ, _<_, ℤ}
+use Rattle.kit.proofs.{_≡_, refl, sym, ap, _∙_, Bool, true, false, not, List, [], _∷_, _++_, ℕ, _<_, ℤ}
 use Rattle.signed.proofs.{clash}
-use Rattle.words.specs.declared.{Timestamp.Timestamp, Reading.Reading, Summary.Summary, Answer.Answer}
-use Rattle.words.specs.declared.{Answer.the-variants.NoReading, Answer.the-variants.Found}
+use Rattle.words.specs.declared.{Timestamp.Timestamp, Reading.Reading, Answer.Answer, Answer.the-variants.NoReading}
+use Rattle.words.specs.declared.{Answer.the-variants.Found}
 use Rattle.om3.specs.Document.{upFrom, isGap, hour, hourOf, Node, InTree, left, right, hours, isEmpty, rangeOf}
 use Rattle.om3.specs.Document.{Table, reached, hasReading, joined, readingOf, lookThrough}
 use Rattle.om3.proofs.Tests.{chosen}

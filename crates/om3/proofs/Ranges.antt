@@ -1,7 +1,7 @@
 -- Ranges of neighbouring hours join, an empty one changes nothing, and the ranges of a series lie within readings.
 -- Assumes nothing.
-use Rattle.kit.proofs.{_≡_, refl, sym, ap, _∙_, Bool, true, false, cond, _||_, List, [], _∷_, _++_, map, map-append}
-use Rattle.kit.proofs.{⊎-elim, ℕ, _<_, ltb, ℤ, pos, negℤ, getD, ltb-true}
+use Rattle.kit.proofs.{_≡_, refl, sym, ap, _∙_, true, _||_, List, [], _∷_, _++_, map, map-append, ⊎-elim, ℕ, _<_, ltb}
+use Rattle.kit.proofs.{ℤ, pos, negℤ, getD, ltb-true}
 use Rattle.signed.specs.{minZ, maxZ}
 use Rattle.signed.proofs.{clash, min-parts, max-parts, isNumber-true, signed}
 use Rattle.words.specs.{largestReading, gapMark, gap, lowOf, Readings}

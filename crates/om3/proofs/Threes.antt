@@ -1,7 +1,6 @@
 -- Each coefficient of a sound table has room in three bytes: it is a root value, a detail of two ranges of readings, or
 -- a mark, and the largest of these is the mark of a gap. Assumes nothing.
-use Rattle.kit.proofs.{_≡_, subst, true, ⊎-elim, ℕ, zero, suc, _+_, _-_, _*_, _/_, _^_, _≤_, _<_, two-pow-succ, arith}
-use Rattle.kit.proofs.{ℤ, pos, negℤ, _-ℤ_, _≤ℤ_, getD}
+use Rattle.kit.proofs.{_≡_, true, ℕ, zero, suc, _^_, _≤_, _<_, arith, ℤ, pos, negℤ, _-ℤ_, _≤ℤ_, getD}
 use Rattle.signed.proofs.{sub-parts, signed}
 use Rattle.words.specs.{largestDetail, lowOf, highOf, Readings}
 use Rattle.words.specs.declared.{Range.Range, Range.the-variants.Empty, Range.the-variants.Held}

@@ -1,6 +1,6 @@
 -- A sound table is the table of the hours that it turns back to. Assumes nothing.
-use Rattle.kit.proofs.{_≡_, refl, sym, ap, _∙_, Bool, true, false, cond, _||_, List, ⊎-elim, ℕ, zero, suc, _+_, _-_}
-use Rattle.kit.proofs.{_*_, _/_, _^_, _≤_, _<_, two-pow-succ, arith, ltb, ℤ, length, getD, ltb-true}
+use Rattle.kit.proofs.{_≡_, refl, sym, ap, _∙_, Bool, true, false, cond, _||_, List, ℕ, zero, suc, _+_, _-_, _/_, _^_}
+use Rattle.kit.proofs.{_≤_, _<_, arith, ltb, ℤ, length, getD, ltb-true}
 use Rattle.signed.proofs.{clash}
 use Rattle.words.specs.{gap, lowOf, highOf}
 use Rattle.words.specs.declared.{Range.Range, Range.the-variants.Empty, Range.the-variants.Held}

@@ -1,7 +1,7 @@
 -- Where what is reached at each node is the range of its hours, the walk to the first reading from a node that has one
 -- ends at the first reading of the node's hours, and the walk to the last at the last: the half taken at each step has
 -- a reading, and its first or last is the node's own. Assumes nothing.
-use Rattle.kit.proofs.{_≡_, refl, sym, ap, _∙_, Bool, true, false, cond, List, ℕ, zero, suc, _+_, _<_, arith, ℤ}
+use Rattle.kit.proofs.{_≡_, refl, sym, ap, _∙_, true, false, List, ℕ, zero, suc, _+_, _<_, arith, ℤ}
 use Rattle.words.specs.{lowOf, declared.Timestamp.Timestamp, declared.Reading.Reading, declared.Answer.Answer}
 use Rattle.om3.specs.Document.{hour, hourOf, Node, InTree, left, right, rangeOf, Table, reached, hasReading}
 use Rattle.om3.specs.Document.{walkEnd, towardsFirst, towardsLast, readingAt, readingOf}
