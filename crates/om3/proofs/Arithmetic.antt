@@ -4,7 +4,8 @@ use Rattle.kit.proofs.{_*_, _/_, _%_, _≤_, _<_, suc-mul, le-div-iff-mul-le, d
 use Rattle.kit.proofs.{le-leb, ltb-true, ltb-false}
 use Rattle.om3.specs.Document.{every, ceil, ascii, zeroDigit, digit, isDigit, withDigit, valueOf, digitsOf}
 use Rattle.om3.specs.Document.{decimal}
-use Rattle.om3.proofs.{Tests.chosen, Tests.below-or-not, Tests.both-true, NodeLists.every-append}
+use Rattle.om3.proofs.{NodeLists.every-append}
+use Rattle.om3.proofs.Tests.{chosen, below-or-not, both-true}
 
 -- m / w rounded up, times w: at least m, and less than m + w.
 module _ (m w : ℕ) (some : 1 ≤ w) where

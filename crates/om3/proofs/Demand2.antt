@@ -8,10 +8,10 @@ use Rattle.om3.specs.Document.{isReading, isGap, Series, levels, P, hour
 use Rattle.om3.specs.Document.{coefficient, codeOfPlace, tableOf, HasTable, reachedAt, reached, turnedBack}
 use Rattle.om3.specs.Document.{soundTable, tableShort}
 use Rattle.om3.proofs.{Tests.left-true, Tests.is-between, Lists.map-up-length, Lists.take-made}
-use Rattle.om3.proofs.{Levels.levels-some, Levels.n≤P, Nodes.start-hour, Ranges.low-hour}
+use Rattle.om3.proofs.{Levels.levels-some, Levels.n≤P, Nodes.start-hour, Ranges.low-hour, Reached.reached-range}
+use Rattle.om3.proofs.{MadeSound.made-sound, SoundTables.readings-reached, Lent.coefficients-there}
+use Rattle.om3.proofs.{Lent.codes-there}
 use Rattle.om3.proofs.Places.{coefficient-place, hour-range}
-use Rattle.om3.proofs.{Reached.reached-range, MadeSound.made-sound, SoundTables.readings-reached}
-use Rattle.om3.proofs.{Lent.coefficients-there, Lent.codes-there}
 use Rattle.om3.proofs.Agreeing.{Agree, reached-agrees, sound-agrees}
 use Rattle.om3.proofs.TurnedBack.{turned-length, turned-at, coefficient-same, codes-same}
 

@@ -7,8 +7,7 @@ use Rattle.words.specs.declared.{Column.Column, Range.Range, Range.the-variants
 use Rattle.om3.specs.Document.{Node, InTree, left, right, both, Table, reached, shares, inside, opened, visited}
 use Rattle.om3.specs.Document.{outer, inner, LiesWithin}
 use Rattle.om3.proofs.{Intervals.inside-shares, Opened.opened-opens, Opened.unopened-if}
-use Rattle.om3.proofs.{EachVisited.root-visited}
-use Rattle.om3.proofs.{RangesBelow.outer-unopened, RangesBelow.inner-unopened}
+use Rattle.om3.proofs.{EachVisited.root-visited, RangesBelow.outer-unopened, RangesBelow.inner-unopened}
 use Rattle.om3.proofs.BelowOpened.{visited-left, visited-right, visited-root}
 use Rattle.om3.proofs.RangesWithin.{within-refl, within-trans, both-widen}
 use Rattle.om3.proofs.EachVisited.{opened-or-inside, opened-deeper, AtEnds, GoingOn, each-visited}

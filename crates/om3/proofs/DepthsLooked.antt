@@ -6,8 +6,8 @@ use Rattle.words.specs.declared.{Column.Column, Range.Range}
 use Rattle.om3.specs.Document.{isGap, hour, hourOf, Node, InTree, left, right, width, start, hours, look, rangeOf}
 use Rattle.om3.specs.Document.{Table, reached, inColumn, columnHours, inside, outer, inner, Covers, LiesWithin}
 use Rattle.om3.proofs.{Tests.below-or-not, Tests.chosen, Ranges.range-halves, Opened.node-cut}
-use Rattle.om3.proofs.{RangesBelow.outer-unopened}
-use Rattle.om3.proofs.{RangesBelow.inner-unopened, RangesWithin.hours-cover, RangesWithin.hours-within}
+use Rattle.om3.proofs.{RangesBelow.outer-unopened, RangesBelow.inner-unopened, RangesWithin.hours-cover}
+use Rattle.om3.proofs.{RangesWithin.hours-within}
 use Rattle.om3.proofs.EachVisited.{AtEnds, GoingOn, root-visited}
 use Rattle.om3.proofs.Nodes.{left-in, right-in, start-root, width-root}
 use Rattle.om3.proofs.Intervals.{Within, in-column, column-in, overlap-shares, inside-within}

@@ -8,7 +8,8 @@ use Rattle.words.specs.{largestReading, gapMark, gap, lowOf, Readings}
 use Rattle.words.specs.declared.{Timestamp.Timestamp, Range.Range, Range.the-variants.Empty, Range.the-variants.Held}
 use Rattle.om3.specs.Document.{isReading, isGap, Holds, hourOf, Node, left, right, hours, hourRange, both, look}
 use Rattle.om3.specs.Document.{rangeOf}
-use Rattle.om3.proofs.{Tests.or-cases, Tests.chosen, Tests.between, Nodes.hours-halves}
+use Rattle.om3.proofs.{Nodes.hours-halves}
+use Rattle.om3.proofs.Tests.{or-cases, chosen, between}
 
 pub min-assoc : (a b c : ℤ) → minZ (minZ a b) c ≡ minZ a (minZ b c)
 min-assoc a b c = omega (signed, min-parts a b, min-parts b c, min-parts (minZ a b) c, min-parts a (minZ b c))

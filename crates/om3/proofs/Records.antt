@@ -7,8 +7,8 @@ use Rattle.words.specs.{largestHours, version}
 use Rattle.om3.specs.Document.{upFrom, P, Table, tableShort, Bytes, bytesOf, InThree, threeBytes, signedFrom}
 use Rattle.om3.specs.Document.{bytesAt, recordLength, recordSize, recordOf, headerOf, headerSize, lengthIn}
 use Rattle.om3.specs.Document.{versionIn, hoursIn, coefficientIn, tableIn}
-use Rattle.om3.proofs.{Lists.take-made, Levels.P-most, Lent.coefficients-there}
-use Rattle.om3.proofs.{Lent.codes-there, ThreeBytes.three-back, ThreeBytes.threes-size}
+use Rattle.om3.proofs.{Lists.take-made, Levels.P-most, Lent.coefficients-there, Lent.codes-there}
+use Rattle.om3.proofs.{ThreeBytes.three-back, ThreeBytes.threes-size}
 use Rattle.om3.proofs.Bytes.{bytes-length, bytes-back, bytes-take, bytes-append, bytes-are}
 
 pub header-size : (stated n : ℕ) → length (headerOf stated n) ≡ headerSize

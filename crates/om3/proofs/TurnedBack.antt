@@ -7,8 +7,8 @@ use Rattle.words.specs.declared.{Range.Range, Range.the-variants.Empty, Range.t
 use Rattle.om3.specs.Document.{hour, hourOf, Node, InTree, number, root, left, right, start, hourRange, isEmpty}
 use Rattle.om3.specs.Document.{rangeOf, Table, pairCode, codeOfPlace, tableOf, coefficientAt, lowDetailAt}
 use Rattle.om3.specs.Document.{highDetailAt, codeAt, reachedAt, reached, turnedBack, soundTable}
-use Rattle.om3.proofs.{Lists.map-up-length, Lists.map-up-from-0, Levels.half-pow}
-use Rattle.om3.proofs.{Nodes.detail-places, Ranges.low-hour, Ranges.range-halves, SoundDetails.root-values}
+use Rattle.om3.proofs.{Lists.map-up-length, Lists.map-up-from-0, Levels.half-pow, Nodes.detail-places}
+use Rattle.om3.proofs.{Ranges.low-hour, Ranges.range-halves, SoundDetails.root-values}
 use Rattle.om3.proofs.Nodes.{root-in, left-in, right-in, start-hour, node-of-number}
 use Rattle.om3.proofs.Places.{root-low, root-high, low-place, high-place, hour-range}
 use Rattle.om3.proofs.SoundTables.{root-sound, node-details, left-details, right-details, node-coded}

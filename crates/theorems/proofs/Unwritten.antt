@@ -37,10 +37,6 @@ none-zero refusal.BytesAfter e = omega arith
 none-zero (refusal.BadLine i) e = omega arith
 none-zero refusal.BadPlace e = omega arith
 
--- Two refusals of one check are the same.
-refuses-one : (why why′ : Refusal) → refuses why ≡ refuses why′ → why ≡ why′
-refuses-one why why′ e = cc
-
 -- A call with these checks, its answers, and how the boundary tells them: a refusal by its number and its place, and
 -- what is taken with the number 0.
 module _ {A T : Type 0} (refused : Refusal → A) (taken : A) (told : A → T) (number place : T → ℕ)
@@ -64,7 +60,7 @@ module _ {A T : Type 0} (refused : Refusal → A) (taken : A) (told : A → T) (
           record {
             cause = λ other. (why, first-cause checks why .0 d, n, p);
             tells = λ why′ first.
-                let same = refuses-one why why′ (sym d ∙ first-cause checks why′ .1 first) in
+                let same : why ≡ why′ = cc (sym d ∙ first-cause checks why′ .1 first) in
                 (λ z. none-zero why (sym n ∙ z), n ∙ ap numberOf same, p ∙ ap placeOf same);
           }
 

@@ -6,7 +6,7 @@ use Rattle.words.specs.{largestHours, Readings, declared.Column.Column, declare
 use Rattle.om3.proofs.Tests.{and-right}
 use Rattle.node.specs.declared.Halves.{Halves}
 use Rattle.walking.specs.Nodes.{Below, isPairOf, leftReached, rightReached, touchesOf, insideOf, openedOf}
-use Rattle.walking.specs.{Visiting.Steps, Visiting.SteppedDown, Visiting.SteppedFrom, Visiting.VisitedFrom}
+use Rattle.walking.specs.Visiting.{Steps, SteppedDown, SteppedFrom, VisitedFrom}
 use Rattle.walking.specs.Narrowing.{EndsAt, SplitsAt}
 use Rattle.walking.specs.declared.{Reached.Reached, Visited.Visited}
 use Rattle.walking.proofs.Lending.{steps, some-hours, small-number, ends-within, left-below, right-below}

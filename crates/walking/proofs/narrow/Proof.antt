@@ -40,9 +40,6 @@ halved c =
 returns-2 : tie.Need-returns-2 Inv-loop μ-loop
 returns-2 c = laws.splits (halved (c .before .before .before .before))
 
-loop-less : tie.Need-loop-less Inv-loop μ-loop
-loop-less c = laws.right-falls (halved (c .before .before .before .before))
-
 loop-again : tie.Need-loop-again Inv-loop μ-loop
 loop-again c =
     laws.goes-right (halved (c .before .before .before .before)) (c .before .touches2 .ensures) (c .if3 .left)
@@ -53,7 +50,8 @@ narrow-spec =
     (tie.spec Inv-loop μ-loop (λ c κs. search needs) loop-holds (λ c κs. search laws.narrows) (λ c κs. search needs)
     (λ c κs. search laws.narrows) (λ c. search needs) (λ c. search needs) (λ c. search laws.unsound)
     (λ c κs. search laws.narrows) (λ c κs. search laws.narrows) (λ c. search laws.narrows)
-    (λ c κs. search laws.narrows) (λ c κs. search laws.narrows) returns-2 loop-less loop-again
+    (λ c κs. search laws.narrows) (λ c κs. search laws.narrows) returns-2
+    (λ c. laws.right-falls (halved (c .before .before .before .before))) loop-again
     (λ c. laws.left-falls (halved (c .before .before)))
     (λ c. laws.goes-left (halved (c .before .before)) (c .before .touches .ensures) (c .if2 .left))
     (λ c. search laws.ends))

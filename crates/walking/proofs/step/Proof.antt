@@ -20,23 +20,8 @@ returns c w two told =
     laws.pair-stepped _ _ _ _ _ w _ two (ltb-true w 4 (sym told ∙ pair)) (start .pre .readings) _
     (c .pair-halves .ensures)
 
-mul-left-number : tie.Need-mul-left-number
-mul-left-number c = omega (arith, room (c .before), c .before .before .before .good)
-
-add-right-number : tie.Need-add-right-number
-add-right-number c = omega (arith, room (c .before), c .before .before .before .good)
-
-mul-half-ranges : tie.Need-mul-half-ranges
-mul-half-ranges c = omega (arith, room (c .before), c .before .before .before .good)
-
-shared-slice-copy-out-half-ranges : tie.Need-shared-slice-copy-out-half-ranges
-shared-slice-copy-out-half-ranges c = omega (arith, room (c .before))
-
 mul-half-ranges-2 : tie.Need-mul-half-ranges-2
 mul-half-ranges-2 c = omega (arith, room (c .before .before), c .before .before .before .before .good)
-
-shared-slice-copy-out-half-ranges-2 : tie.Need-shared-slice-copy-out-half-ranges-2
-shared-slice-copy-out-half-ranges-2 c = omega (arith, room (c .before .before))
 
 half-ranges-requires : tie.Need-half-ranges-requires
 half-ranges-requires c κs = c .before .before .before .before .before .pre .readings
@@ -55,6 +40,7 @@ returns-2 c w two told =
 pub step-spec : {M : Type 1} → statement M
 step-spec =
     tie.close
-    (tie.spec pair-halves-requires returns mul-left-number add-right-number mul-half-ranges
-    shared-slice-copy-out-half-ranges mul-half-ranges-2 shared-slice-copy-out-half-ranges-2 half-ranges-requires
-    returns-2)
+    (tie.spec pair-halves-requires returns (λ c. omega (arith, room (c .before), c .before .before .before .good))
+    (λ c. omega (arith, room (c .before), c .before .before .before .good))
+    (λ c. omega (arith, room (c .before), c .before .before .before .good)) (λ c. omega (arith, room (c .before)))
+    mul-half-ranges-2 (λ c. omega (arith, room (c .before .before))) half-ranges-requires returns-2)

@@ -20,12 +20,6 @@ root-told c g =
     root-read (startOf c .args .coefficients .now) (c .before .before .root-range-arg .given)
     (c .before .root-range-arg2 .given) (c .root-range .ensures) g
 
-shared-slice-copy-out-root-range : tie.Need-shared-slice-copy-out-root-range
-shared-slice-copy-out-root-range c = omega (arith, c .before .pre .1 .0 .root)
-
-shared-slice-copy-out-root-range-2 : tie.Need-shared-slice-copy-out-root-range-2
-shared-slice-copy-out-root-range-2 c = omega (arith, c .before .before .pre .1 .0 .root)
-
 returns : tie.Need-returns
 returns c = laws.root-unsound _ _ _ _ _ (root-told (c .before .before) (c .enum-told .given .1))
 
@@ -51,5 +45,5 @@ returns-2 c =
 pub visit-table-spec : {M : Type 1} → statement M
 visit-table-spec =
     tie.close
-    (tie.spec shared-slice-copy-out-root-range shared-slice-copy-out-root-range-2 (λ c κs. search needs)
-    (λ c. search needs) (λ c. search needs) returns visit-requires returns-2)
+    (tie.spec (λ c. omega (arith, c .before .pre .1 .0 .root)) (λ c. omega (arith, c .before .before .pre .1 .0 .root))
+    (λ c κs. search needs) (λ c. search needs) (λ c. search needs) returns visit-requires returns-2)
