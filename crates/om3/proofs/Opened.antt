@@ -18,21 +18,13 @@ pub record Opens (l : ℕ) (t : Table) (x : Column) (d : ℕ) (v : Node) : Type 
   pub shallow : v .level < d
 
 module _ (l : ℕ) (t : Table) (x : Column) (d : ℕ) (v : Node) where
-  abbrev R : Bool
-  R = hasReading l t v
-
-  abbrev S : Bool
-  S = shares l x v
-
-  abbrev O : Bool
-  O = not (inside l x v)
-
-  abbrev D : Bool
-  D = ltb (v .level) d
-
   pub opened-opens : opened l t x d v ≡ true → Opens l t x d v
   unfolding opened
   opened-opens e =
+      let R = hasReading l t v in
+      let S = shares l x v in
+      let O = not (inside l x v) in
+      let D = ltb (v .level) d in
       let three = and-left (R && S && O) D e in
       let two = and-left (R && S) O three in
       record {
@@ -54,20 +46,19 @@ no-range : (b : Bool) → not (isEmpty (cond b Empty Empty)) ≡ false
 no-range true = refl
 no-range false = refl
 
+some-above : (half : Range → Range) → not (isEmpty (half Empty)) ≡ false → (r : Range)
+    → not (isEmpty (half r)) ≡ true → not (isEmpty r) ≡ true
+some-above half none Empty e = clash (sym none ∙ e)
+some-above half none (Held a b) e = refl
+
 module _ (l : ℕ) (t : Table) (v : Node) where
   left-reading : hasReading l t (left v) ≡ true → hasReading l t v ≡ true
-  left-reading e = by (reached l t v) (rw (reached-left l t v) at e)
-    where
-      by : (r : Range) → not (isEmpty (leftOf l t v r)) ≡ true → not (isEmpty r) ≡ true
-      by Empty e = clash (sym (no-range (isPair l v)) ∙ e)
-      by (Held a b) e = refl
+  left-reading e =
+      some-above (leftOf l t v) (no-range (isPair l v)) (reached l t v) (rw (reached-left l t v) at e)
 
   right-reading : hasReading l t (right v) ≡ true → hasReading l t v ≡ true
-  right-reading e = by (reached l t v) (rw (reached-right l t v) at e)
-    where
-      by : (r : Range) → not (isEmpty (rightOf l t v r)) ≡ true → not (isEmpty r) ≡ true
-      by Empty e = clash (sym (no-range (isPair l v)) ∙ e)
-      by (Held a b) e = refl
+  right-reading e =
+      some-above (rightOf l t v) (no-range (isPair l v)) (reached l t v) (rw (reached-right l t v) at e)
 
 -- Where the left half of a node ends, the right half starts, and it ends where the node does.
 pub record Cut (l : ℕ) (v : Node) : Type 0 where

@@ -72,27 +72,20 @@ module _ (a b : ℤ) (p : Readings (Held a b)) where
       record { halves = record { joined = refl; readings-left = tt; readings-right = p }; low = refl; high = refl }
 
   module _ (d e : ℤ) where
-    abbrev La : ℤ
-    La = leftLow a d
-
-    abbrev Ra : ℤ
-    Ra = rightLow a d
-
-    abbrev Lb : ℤ
-    Lb = leftHigh b e
-
-    abbrev Rb : ℤ
-    Rb = rightHigh b e
-
     module _ (u : d ≤ℤ pos largestDetail) where
-      left-is : leftHalf (Held a b) d e ≡ Held La Lb
+      left-is : leftHalf (Held a b) d e ≡ Held (leftLow a d) (leftHigh b e)
       left-is = rw (no-mark leftMark d (lit< tt) u, no-mark rightMark d (lit< tt) u)
 
-      right-is : rightHalf (Held a b) d e ≡ Held Ra Rb
+      right-is : rightHalf (Held a b) d e ≡ Held (rightLow a d) (rightHigh b e)
       right-is = rw (no-mark leftMark d (lit< tt) u, no-mark rightMark d (lit< tt) u)
 
-      two-halves : leZ La Lb ≡ true → leZ Ra Rb ≡ true → Details (Held a b) d e
+      two-halves : leZ (leftLow a d) (leftHigh b e) ≡ true → leZ (rightLow a d) (rightHigh b e) ≡ true
+          → Details (Held a b) d e
       two-halves hl hr =
+          let La = leftLow a d in
+          let Ra = rightLow a d in
+          let Lb = leftHigh b e in
+          let Rb = rightHigh b e in
           let lows : minZ La Ra ≡ a = omega (signed, min-parts La Ra, leftLow-parts a d, rightLow-parts a d) in
           let highs : maxZ Lb Rb ≡ b = omega (signed, max-parts Lb Rb, leftHigh-parts b e, rightHigh-parts b e) in
           record {
