@@ -1,5 +1,5 @@
 -- A call that asks nothing and promises one fact, in the kit's own terms: of the clauses that it reads from the source
--- of the call, and of the routine that is compiled from it. Each crate says of its public calls that they are such
+-- of the call, and of the routine that it makes of its code. Each crate says of its public calls that they are such
 -- calls, and which fact each promises (proofs/Clauses). Assumes nothing.
 --
 --   Promise T            a fact about a call's arguments, its answer, and its parameters as it leaves them; T is how

@@ -7,7 +7,7 @@ use Rattle.told.proofs.Says as told
 use Rattle.theorems.specs.{Once.EachCall, Causes.EachCause, Unwritten.EachRefused, Unwritten.NothingWritten}
 use Rattle.theorems.proofs as theorems
 
--- Each call asks nothing, its contract is one fact, which its compiled code meets, and the contract allows one answer
+-- Each call asks nothing, its contract is one fact, which its code meets, and the contract allows one answer
 -- and one content of each buffer lent to be written.
 each-call : EachCall
 each-call = theorems.Once.each-call
