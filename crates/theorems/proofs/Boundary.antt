@@ -18,7 +18,7 @@ use Rattle.told.specs.Columns.{answerTold, finishedTold, stoppedTold}
 use Rattle.sagivelume.specs.Boundary.{Tells}
 use Rattle.theorems.proofs.Calls.{make-writes, made-series, turned-back-after, taken-exactly, writes-series}
 use Rattle.theorems.proofs.Records.{read-exactly, read-writes}
-use Rattle.theorems.proofs.Unwritten.{taking-zero, unpacking-zero}
+use Rattle.theorems.proofs.Refused.{taking-zero, unpacking-zero}
 
 -- Making.
 module _ (n : ℕ) (s cs cs′ : List ℤ) (ks ks′ : List ℕ) (r : Told)

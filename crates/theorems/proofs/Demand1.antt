@@ -4,7 +4,7 @@
 -- nothing.
 use Rattle.told.specs.Says.{EachSays}
 use Rattle.told.proofs.Says as told
-use Rattle.theorems.specs.{Once.EachCall, Causes.EachCause, Unwritten.EachRefused, Unwritten.NothingWritten}
+use Rattle.theorems.specs.{Once.EachCall, Refused.EachRefused, Refused.NothingWritten, Unlinked.UnlinkedCause}
 use Rattle.theorems.proofs as theorems
 
 -- Each call asks nothing, its contract is one fact, which its code meets, and the contract allows one answer
@@ -12,19 +12,19 @@ use Rattle.theorems.proofs as theorems
 each-call : EachCall
 each-call = theorems.Once.each-call
 
--- Each call that refuses has a list of checks, and refuses by the first of them that has a cause, by that cause alone.
-each-cause : EachCause
-each-cause = theorems.Causes.each-cause
-
 -- What the boundary tells in a struct is what document 01 says of the answer: its number, its place, its values.
 told-says : EachSays
 told-says = told.each-says
 
--- So at the boundary a call tells another number than 0 exactly if some check of its list refuses, and then the number
--- and the place of the first that does.
+-- Each call of the boundary that refuses has a list of checks. It tells another number than 0 exactly if some check of
+-- its list refuses, and then the number and the place of the first that does.
 each-refused : EachRefused
-each-refused = theorems.Unwritten.each-refused
+each-refused = theorems.Refused.each-refused
 
 -- A call of the boundary that tells another number than 0 leaves every buffer lent to it as it was.
 nothing-written : NothingWritten
-nothing-written = theorems.Unwritten.nothing-written
+nothing-written = theorems.Refused.nothing-written
+
+-- Asking a record of its bytes alone, and the printer, refuse by the first cause of a list too.
+unlinked-cause : UnlinkedCause
+unlinked-cause = theorems.Unlinked.unlinked-cause

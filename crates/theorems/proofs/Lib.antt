@@ -1,7 +1,7 @@
 -- The laws about the calls, those about the definitions, the figures, and the pages; Theorems lists the pages.
 pub mod Once
-pub mod Causes
-pub mod Unwritten
+pub mod Unlinked
+pub mod Refused
 pub mod Calls
 pub mod Records
 pub mod Boundary

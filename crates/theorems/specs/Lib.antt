@@ -1,5 +1,5 @@
 -- What the theorems say of each call, and of the printer's calls together.
 pub mod Once
-pub mod Causes
-pub mod Unwritten
+pub mod Unlinked
+pub mod Refused
 pub mod Printer

@@ -19,7 +19,7 @@ use Rattle.told.specs.Tables.{takingTold}
 use Rattle.told.specs.Records.{writingTold, unpackingTold, openingTold, askingTold}
 use Rattle.told.specs.Columns.{edgesTold, stoppedTold, finishedTold, changeTold}
 use Rattle.sagivelume.proofs.Clauses.{tells-one}
-use Rattle.theorems.specs.Unwritten.{RefusedTold, EachRefused, NothingWritten}
+use Rattle.theorems.specs.Refused.{RefusedTold, EachRefused, NothingWritten}
 
 -- No refusal has the number 0.
 pub none-zero : (why : Refusal) → ¬ (numberOf why ≡ 0)
