@@ -5,10 +5,10 @@ use std::str::FromStr;
 
 use crate::columns::{edges, stopped, Column};
 use crate::finished::{day_change, finished, join, Answer, Found, Reading};
-use crate::hours::{Hours, LowHigh};
+use crate::hours::{places, Hours, LowHigh};
 use crate::level::level;
 use crate::printer::print;
-use crate::record::{ask, ask_view, open, read_record, write_record, Opened};
+use crate::record::{ask, ask_view, open, read_record, record_bytes, write_record, Opened};
 use crate::refusal::Refusal;
 use crate::sound::turn_back;
 use crate::table::make;
@@ -33,6 +33,8 @@ fn called(line: &str) -> Option<String> {
     let buffers: Vec<&str> = parts.collect();
 
     let text = match (name, &numbers[..], &buffers[..]) {
+        ("places", &[n], []) => taken_or_refused(Ok(vec![field(places(n))])),
+        ("record_bytes", &[n], []) => taken_or_refused(Ok(vec![field(record_bytes(n))])),
         ("make", &[n], [readings, coefficients, codes]) => {
             let readings = buffer(readings)?;
             let (mut coefficients, mut codes) = (buffer(coefficients)?, buffer(codes)?);

@@ -31,10 +31,10 @@ pub mod vectors;
 
 pub use columns::{edges, stopped, Column, Stopped};
 pub use finished::{day_change, finished, join, Answer, Finished, Found, Reading};
-pub use hours::{Hours, LowHigh, Node, Shape};
+pub use hours::{places, Hours, LowHigh, Node, Shape};
 pub use level::{level, Stretch};
 pub use printer::print;
-pub use record::{ask, ask_view, open, read_record, write_record, Opened};
+pub use record::{ask, ask_view, open, read_record, record_bytes, write_record, Opened};
 pub use refusal::Refusal;
 pub use sound::{turn_back, Table};
 pub use table::make;

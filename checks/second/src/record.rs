@@ -18,6 +18,11 @@ fn length_field(shape: Shape) -> u64 {
     3 + 3 * shape.p + shape.p / 2
 }
 
+/// How many bytes the record of n hours has; 0 if no series has n hours.
+pub fn record_bytes(n: u64) -> u64 {
+    Shape::of(n).map_or(0, |shape| LENGTH_FIELD + length_field(shape))
+}
+
 /// The whole record of a table that holds exactly P coefficients and P/2 codes.
 fn record_of(shape: Shape, coefficients: &[i32], codes: &[u8]) -> Vec<u8> {
     let mut record = Vec::new();

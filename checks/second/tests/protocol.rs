@@ -8,7 +8,9 @@ use second::answer::{answer, BAD_LINE, MOST_NUMBERS};
 
 const README: &str = include_str!("../README.md");
 
-const CALLS: [&str; 14] = [
+const CALLS: [&str; 16] = [
+    "places",
+    "record_bytes",
     "make",
     "turn_back",
     "level",

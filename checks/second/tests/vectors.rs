@@ -45,7 +45,11 @@ const OUTCOMES: [(&str, &[u8], usize); 12] = [
     ("day_change", &[1, 3, 4, 5], 5),
 ];
 
-/// Whether these are the outcomes, those of a level aside.
+fn refuses_nothing(outcome: &str) -> bool {
+    outcome.starts_with("level") || outcome.starts_with("sizes")
+}
+
+/// Whether these are the outcomes, those of a level and of sizes aside, which refuse nothing.
 fn assert_outcomes(outcomes: &BTreeMap<String, usize>, calls: &[(&str, &[u8], usize)]) {
     let mut expected = BTreeSet::new();
     for (name, numbers, least) in calls {
@@ -55,7 +59,7 @@ fn assert_outcomes(outcomes: &BTreeMap<String, usize>, calls: &[(&str, &[u8], us
             expected.insert(outcome);
         }
     }
-    let found: BTreeSet<String> = outcomes.keys().filter(|name| !name.starts_with("level")).cloned().collect();
+    let found: BTreeSet<String> = outcomes.keys().filter(|name| !refuses_nothing(name)).cloned().collect();
     assert_eq!(found, expected);
 }
 
@@ -64,13 +68,13 @@ fn every_outcome_of_every_call_is_there() {
     let [of_calls, of_printer] = written().map(|files| files.outcomes);
     assert_outcomes(&of_calls, &OUTCOMES);
     assert_outcomes(&of_printer, &[("print", &[12, 1, 2, 5, 6], 20)]);
-    let levels: Vec<&str> = of_calls.keys().map(String::as_str).filter(|name| name.starts_with("level")).collect();
-    assert_eq!(levels, ["level found", "level of length 0"]);
+    let others: Vec<&str> = of_calls.keys().map(String::as_str).filter(|name| refuses_nothing(name)).collect();
+    assert_eq!(others, ["level found", "level of length 0", "sizes of no series", "sizes told"]);
 }
 
 /// How many numbers a call of each kind takes, and then how many buffers; from kind 1 on.
-const TAKEN: [(usize, usize); 13] =
-    [(1, 3), (1, 3), (2, 1), (1, 3), (0, 3), (0, 1), (2, 1), (5, 0), (6, 2), (5, 2), (14, 0), (2, 2), (1, 1)];
+const TAKEN: [(usize, usize); 14] =
+    [(1, 3), (1, 3), (2, 1), (1, 3), (0, 3), (0, 1), (2, 1), (5, 0), (6, 2), (5, 2), (14, 0), (2, 2), (1, 1), (1, 0)];
 
 /// The calls are taken apart by what is told of them alone: each buffer is as long as it says, and in it no number
 /// follows itself.

@@ -5,6 +5,7 @@ use Rattle.kit.specs.Calls.{Promise, Call, second, third, fourth}
 use denote.Ref.{now}
 use Rattle.om3.specs.Document.{lent, levelStretch, opening, askingView, edges as edgesOf, stopped as stoppedOf}
 use Rattle.om3.specs.Document.{finished as finishedOf, joined, dayChange}
+use Rattle.sizes.specs.Needed.{placesNeeded, bytesNeeded}
 use Rattle.making.specs.Making.{Made}
 use Rattle.turning.specs.Turning.{TurnedBack}
 use Rattle.writing.specs.Writing.{RecordWritten}
@@ -20,6 +21,38 @@ use Rattle.sagivelume.proofs as boundary
 pub tells-one : {A T : Type 0} {promised : A → Type 0} {told : A → T} {r : T} {x : A} (t : Tells promised told r)
     → t .answer ≡ x → r ≡ told x
 tells-one {told = told} t e = t .tells ∙ ap told e
+
+abbrev pub PlacesPromises : Promise boundary.sagivelume_places.ended
+PlacesPromises κs n r e = r ≡ placesNeeded n
+
+abbrev pub PlacesCall : Type 2
+PlacesCall =
+    Call boundary.sagivelume_places.ended (λ M. boundary.sagivelume_places.clauses {M = M})
+    boundary.sagivelume_places.Symbol.routine PlacesPromises (λ κs r e. r)
+
+pub places-call : PlacesCall
+places-call =
+    record {
+      clauses = λ 𝓤 H A mem run. refl;
+      meets = boundary.sagivelume_places.Met.met;
+      one = λ κs a r r′ e e′ x y. x ∙ sym y;
+    }
+
+abbrev pub RecordBytesPromises : Promise boundary.sagivelume_record_bytes.ended
+RecordBytesPromises κs n r e = r ≡ bytesNeeded n
+
+abbrev pub RecordBytesCall : Type 2
+RecordBytesCall =
+    Call boundary.sagivelume_record_bytes.ended (λ M. boundary.sagivelume_record_bytes.clauses {M = M})
+    boundary.sagivelume_record_bytes.Symbol.routine RecordBytesPromises (λ κs r e. r)
+
+pub record-bytes-call : RecordBytesCall
+record-bytes-call =
+    record {
+      clauses = λ 𝓤 H A mem run. refl;
+      meets = boundary.sagivelume_record_bytes.Met.met;
+      one = λ κs a r r′ e e′ x y. x ∙ sym y;
+    }
 
 abbrev pub MakePromises : Promise boundary.sagivelume_make.ended
 MakePromises κs n readings coefficients codes r e =

@@ -22,6 +22,7 @@ ghost use Rattle.om3.specs.Stopped.{stopped};
 ghost use Rattle.om3.specs.Finished.{finished};
 ghost use Rattle.om3.specs.Joined.{joined};
 ghost use Rattle.om3.specs.Days.{dayChange};
+ghost use Rattle.sizes.specs.Needed.{placesNeeded, bytesNeeded};
 ghost use Rattle.making.specs.Making.{Made};
 ghost use Rattle.turning.specs.Turning.{TurnedBack};
 ghost use Rattle.writing.specs.Writing.{RecordWritten};
@@ -30,6 +31,22 @@ ghost use Rattle.told.specs.Tables.{takingTold};
 ghost use Rattle.told.specs.Records.{writingTold, unpackingTold, openingTold, askingTold};
 ghost use Rattle.told.specs.Columns.{edgesTold, stoppedTold, answerTold, answerIn, finishedTold, changeTold};
 ghost use Rattle.sagivelume.specs.Boundary.{Tells};
+
+// How many coefficients the table of n hours has, P, and half as many codes; 0 if n is no number of hours.
+#[no_mangle]
+pub extern "C" fn sagivelume_places(n: usize) -> usize
+    ensures { λ r. ⌜ r ≡ placesNeeded n ⌝ }
+{
+    sizes::places_needed(n)
+}
+
+// How many bytes the record of n hours has; 0 if n is no number of hours.
+#[no_mangle]
+pub extern "C" fn sagivelume_record_bytes(n: usize) -> usize
+    ensures { λ r. ⌜ r ≡ bytesNeeded n ⌝ }
+{
+    sizes::bytes_needed(n)
+}
 
 // Makes the table of n hours of readings: needs n readings, P coefficients and P/2 codes. Refusals 1, 3, 2.
 #[no_mangle]

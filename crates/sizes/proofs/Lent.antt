@@ -1,12 +1,12 @@
--- A table is lent whole exactly if checks 1 and 3 pass for it; what these two checks say, and of a call that begins
--- with them. Assumes nothing.
-use Rattle.kit.proofs.{_≡_, _∙_, true, false, List, [], _∷_, ℕ, ℤ}
+-- A table is lent whole exactly if checks 1 and 3 pass for it, and so is one in as many places as are told to be needed;
+-- what these two checks say, and of a call that begins with them. Assumes nothing.
+use Rattle.kit.proofs.{_≡_, _∙_, true, false, List, [], _∷_, ℕ, _/_, _≤_, ℤ, length}
 use Rattle.words.specs.declared.{Refusal.Refusal, Refusal.the-variants.BadHours, Refusal.the-variants.ShortBuffer}
 use Rattle.om3.specs.Document.{badHours, P, Table, lent, Check, passes, refuses, andThen, inOrder, checkHours}
 use Rattle.om3.specs.Document.{checkRoom, tableShort}
 use Rattle.om3.proofs.{Examined.in-order-append}
 use Rattle.om3.proofs.Lent.{not-short, coefficients-there, codes-there}
-use Rattle.sizes.specs.Lent.{lentCheck, TableLent, Passed}
+use Rattle.sizes.specs.{Lent.lentCheck, Lent.TableLent, Lent.Passed, Needed.placesNeeded}
 
 module _ (n : ℕ) (cs : List ℤ) (ks : List ℕ) where
   pub table-lent : badHours n ≡ false → tableShort n (lent cs ks) ≡ false → TableLent n cs ks
@@ -19,6 +19,10 @@ module _ (n : ℕ) (cs : List ℤ) (ks : List ℕ) where
 
   pub table-room : TableLent n cs ks → tableShort n (lent cs ks) ≡ false
   table-room t = not-short n (lent cs ks) (t .coefficients) (t .codes)
+
+  pub needed-room : badHours n ≡ false → placesNeeded n ≤ length cs → placesNeeded n / 2 ≤ length ks
+      → tableShort n (lent cs ks) ≡ false
+  needed-room good c k = not-short n (lent cs ks) (rw good at c) (rw good at k)
 
 -- Checks 1 and 3, in their order.
 module _ (n : ℕ) (cs : List ℤ) (ks : List ℕ) where

@@ -8,6 +8,7 @@ ghost use Rattle.om3.specs.Series.{badHours, P};
 ghost use Rattle.om3.specs.Refusals.{short};
 ghost use Rattle.om3.specs.Record.{lengthFor};
 ghost use Rattle.sizes.specs.Lent.{LentAs};
+ghost use Rattle.sizes.specs.Needed.{placesNeeded, bytesNeeded};
 
 // What checks 1 and 3 of a table answer: its refusal, or P, for which both buffers are long enough.
 pub enum Lending {
@@ -70,4 +71,22 @@ pub fn record_size(p: usize) -> usize
     ensures { λ r. ⌜ r ≡ 4 + lengthFor p ⌝ }
 {
     words::HEADER_SIZE + words::COEFFICIENT_SIZE * p + p / 2
+}
+
+// P for n hours, or 0 if n is no number of hours: so many coefficients, and half as many codes, are to be lent.
+pub fn places_needed(n: usize) -> usize
+    ensures { λ r. ⌜ r ≡ placesNeeded n ⌝ }
+{
+    if bad_hours(n) { 0 } else { places(n) }
+}
+
+// How many bytes the record of n hours has, or 0 if n is no number of hours.
+pub fn bytes_needed(n: usize) -> usize
+    ensures { λ r. ⌜ r ≡ bytesNeeded n ⌝ }
+{
+    if bad_hours(n) {
+        0
+    } else {
+        record_size(places(n))
+    }
 }

@@ -1,4 +1,5 @@
 -- Each call is such a call, as its own crate shows. Assumes nothing.
+use Rattle.sizes.proofs.Clauses as sizes
 use Rattle.making.proofs.Clauses as making
 use Rattle.turning.proofs.Clauses as turning
 use Rattle.level.proofs.Clauses as leveling
@@ -18,6 +19,8 @@ use Rattle.theorems.specs.Once.{EachTold, EachCall}
 each-told : EachTold
 each-told =
     record {
+      places = boundary.places-call;
+      record-bytes = boundary.record-bytes-call;
       make = boundary.make-call;
       turn-back = boundary.turn-back-call;
       level = boundary.level-call;
@@ -36,6 +39,8 @@ pub each-call : EachCall
 each-call =
     record {
       told = each-told;
+      places-needed = sizes.places-call;
+      bytes-needed = sizes.bytes-call;
       make = making.make-call;
       turn-back = turning.turn-back-call;
       stretch = leveling.stretch-call;

@@ -6,6 +6,7 @@
 --
 --   EachTold   the calls of the boundary, which C and Rust link
 --   EachCall   these, and the calls behind them, those of the view and those of the printer
+use Rattle.sizes.proofs.Clauses as sizes
 use Rattle.making.proofs.Clauses as making
 use Rattle.turning.proofs.Clauses as turning
 use Rattle.level.proofs.Clauses as leveling
@@ -22,6 +23,8 @@ use Rattle.printing.proofs.Clauses as printing
 use Rattle.sagivelume.proofs.Clauses as boundary
 
 pub record EachTold : Type 2 where
+  pub places : boundary.PlacesCall
+  pub record-bytes : boundary.RecordBytesCall
   pub make : boundary.MakeCall
   pub turn-back : boundary.TurnBackCall
   pub level : boundary.LevelCall
@@ -37,6 +40,9 @@ pub record EachTold : Type 2 where
 
 pub record EachCall : Type 2 where
   pub told : EachTold
+  -- Sizes: the coefficients of a table, the bytes of a record.
+  pub places-needed : sizes.PlacesCall
+  pub bytes-needed : sizes.BytesCall
   -- Tables: making and turning back; one level's details, as a stretch of places and as the lent part itself.
   pub make : making.MakeCall
   pub turn-back : turning.TurnBackCall

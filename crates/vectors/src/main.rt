@@ -2,9 +2,9 @@
 // also wrote what is to come out.
 //
 // A call is its kind, the numbers that it takes, and its buffers, each its length and then its content. The kinds are
-// numbered through, those of the boundary in its order, then that of the view; what each takes and tells stands in the
-// file of its group. What is written is the number of the refusal, 0 if the call was taken, its place, what the call
-// tells, and the whole content of each buffer that was lent to be written.
+// numbered through: those of the boundary, that of the view, sizes; what each takes and tells stands in the file of its
+// group. What is written is the number of the refusal, 0 if the call was taken, its place, what the call tells, and the
+// whole content of each buffer that was lent to be written.
 //
 // What the calls answer is stated and proved where they stand. As in `vector_lines`, which reads and writes the
 // numbers, the contracts here say no more than safety needs.
@@ -31,6 +31,7 @@ fn answer(text: &[u8], at: usize) -> usize {
         11 => column_calls::answer_join(text, next),
         12 => column_calls::answer_day_change(text, next),
         13 => record_calls::answer_ask_record(text, next),
+        14 => table_calls::answer_sizes(text, next),
         _ => next,
     }
 }

@@ -1,11 +1,12 @@
-// Tables: made and turned back, one level of them.
+// Tables: made and turned back, one level of them, how large they are.
 //
 //     1 n readings coefficients codes      making
 //     2 n coefficients codes hours         turning back
 //     3 n j coefficients                   level j
+//    14 n                                  sizes
 //
-// Making and turning back tell nothing but the refusal, and a level has none: it tells the first place of the stretch
-// and its length.
+// Making and turning back tell nothing but the refusal. A level has none: it tells the first place of the stretch and
+// its length. Nor have sizes: the places of a table are told, and the bytes of its record.
 
 // Makes a table and writes the answer.
 fn show_make(n: usize, readings: &[i32], coefficients: &mut [i32], codes: &mut [u8]) {
@@ -28,6 +29,15 @@ fn show_turn_back(n: usize, coefficients: &[i32], codes: &[u8], hours: &mut [i32
 fn show_level(n: usize, j: usize, coefficients: &[i32]) {
     let stretch = sagivelume::sagivelume_level(n, j, coefficients);
     vector_lines::print_head(stretch.start, stretch.length);
+    vector_lines::print_end();
+}
+
+// Writes how large a table and its record are.
+fn show_sizes(n: usize) {
+    vector_lines::print_head(
+        sagivelume::sagivelume_places(n),
+        sagivelume::sagivelume_record_bytes(n),
+    );
     vector_lines::print_end();
 }
 
@@ -76,4 +86,11 @@ pub fn answer_level(text: &[u8], at: usize) -> usize {
     let c = only.length;
     show_level(n, j, &coefficients[..c]);
     only.next
+}
+
+// A call of sizes, whose n begins at `at`. Tells where the next call begins.
+pub fn answer_sizes(text: &[u8], at: usize) -> usize {
+    let hours = vector_lines::number_at(text, at);
+    show_sizes(hours.size as usize);
+    hours.next
 }

@@ -35,6 +35,7 @@ pub fn calls() -> Vec<Call> {
     calls.extend(Made::of(&mixed(&mut random, 1_000)).exact());
     calls.extend(long(&mut random));
     calls.extend(levels());
+    calls.extend(sizes());
     calls
 }
 
@@ -89,6 +90,13 @@ fn levels() -> Vec<Call> {
     calls.extend([0, 16_385, GREATEST_NUMBER].map(|n| one_level(n, 0, 8)));
     calls.push(one_level(16_384, 12, 16_384));
     calls
+}
+
+/// The sizes for few hours, for numbers of hours around every power of two, and for numbers that are no n.
+fn sizes() -> Vec<Call> {
+    let around = (6..=14).flat_map(|l: u32| [(1 << l) - 1, 1 << l, (1 << l) + 1]);
+    let no_series = [32_768, 65_537, (1 << 32) + 3, GREATEST_NUMBER];
+    (0..=50).chain(around).chain(no_series).map(Call::Sizes).collect()
 }
 
 /// A series of the greatest and the least reading alone.

@@ -1,9 +1,12 @@
 //! A call on a table as text, and its answer.
 //!
 //! `1 n readings coefficients codes` is making, `2 n coefficients codes hours` is turning back, `3 n j coefficients` is
-//! one level, whose answer is the first place of the stretch and its length.
+//! one level, whose answer is the first place of the stretch and its length. `14 n` asks for the places of a table and for
+//! the bytes of its record; the answer is these two numbers.
 
+use crate::hours::places;
 use crate::level::level;
+use crate::record::record_bytes;
 use crate::refusal::Refusal;
 use crate::sound::turn_back;
 use crate::table::make;
@@ -43,6 +46,8 @@ pub enum Call {
         /// Only read.
         coefficients: Vec<i32>,
     },
+    /// The places of a table of so many hours, and the bytes of its record.
+    Sizes(u64),
 }
 
 impl Vector for Call {
@@ -55,6 +60,7 @@ impl Vector for Call {
                 lines(&[numbers(&[2, *n as i64]), lent(coefficients), lent(codes), lent(hours)])
             }
             Call::Level { n, j, coefficients } => lines(&[numbers(&[3, *n as i64, *j as i64]), lent(coefficients)]),
+            Call::Sizes(n) => lines(&[numbers(&[14, *n as i64])]),
         }
     }
 
@@ -73,6 +79,10 @@ impl Vector for Call {
                 let stretch = level(n, j, &coefficients);
                 let found = if stretch.length == 0 { "level of length 0" } else { "level found" };
                 (String::from(found), lines(&[numbers(&[stretch.start as i64, stretch.length as i64])]))
+            }
+            Call::Sizes(n) => {
+                let told = if places(n) == 0 { "sizes of no series" } else { "sizes told" };
+                (String::from(told), lines(&[numbers(&[places(n) as i64, record_bytes(n) as i64])]))
             }
         }
     }
