@@ -85,11 +85,23 @@ pub struct Record<'a> {
 
 impl Record<'_> {
     /// The hours of its series, n.
+    ///
+    /// ```
+    /// let record = sagivelume::open_record(&[0, 0, 0, 10, 1, 0, 2, 255, 255, 255, 0, 1, 244, 0])?;
+    /// assert_eq!(record.hours(), 2);
+    /// # Ok::<(), sagivelume::Refusal>(())
+    /// ```
     pub fn hours(&self) -> usize {
         self.hours
     }
 
     /// The places of its coefficients, P.
+    ///
+    /// ```
+    /// let record = sagivelume::open_record(&[0, 0, 0, 10, 1, 0, 1, 0, 0, 5, 0, 0, 5, 2])?;
+    /// assert_eq!((record.hours(), record.places()), (1, 2));
+    /// # Ok::<(), sagivelume::Refusal>(())
+    /// ```
     pub fn places(&self) -> usize {
         self.places
     }
@@ -109,9 +121,9 @@ impl Record<'_> {
     }
 }
 
-/// The coefficient at a place of a record's bytes. `places` is P as opening answered it for these bytes: it is taken as
-/// it is, nothing else of the record is looked at, and with another P the answer is not the record's. A [`Record`] has
-/// its places from opening.
+/// The coefficient at a place of a record's bytes. `places` is trusted: it is to be P as opening answered it for these
+/// bytes, and neither it nor the record is checked again. With another number no byte beyond the lent ones is read, but
+/// what is answered is not the record's. A [`Record`] has its places from opening.
 ///
 /// [Refusals](Refusal) 13, 8.
 ///

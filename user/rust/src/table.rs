@@ -10,6 +10,18 @@ use crate::refusal::Refusal;
 /// ```
 pub const GAP: i32 = 2_000_003;
 
+/// The largest reading in grams; the least is as far below 0.
+///
+/// ```
+/// use sagivelume::LARGEST_READING;
+///
+/// let (mut coefficients, mut codes) = ([0; 2], [0; 1]);
+/// sagivelume::make(2, &[-LARGEST_READING, LARGEST_READING], &mut coefficients, &mut codes)?;
+/// assert_eq!(coefficients, [-1_000_000, 1_000_000]);
+/// # Ok::<(), sagivelume::Refusal>(())
+/// ```
+pub const LARGEST_READING: i32 = 1_000_000;
+
 /// Makes the table of the first n readings: writes P coefficients and P/2 codes.
 ///
 /// Needs n readings and room for P coefficients and P/2 codes. [Refusals](Refusal) 1, 3, 2.

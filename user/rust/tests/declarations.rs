@@ -1,9 +1,12 @@
 //! The C header, and this crate's own declarations, held against the boundary's source in Rattle: the same functions in
 //! the same order, with the same parameters of the same width, the same structs with the same fields, the same
-//! constants, and the refusals in the same order. A linker checks none of it.
+//! constants, and the same refusals in the same order. A linker checks none of it.
 
 use std::fs;
 use std::path::Path;
+
+use sagivelume::{Refusal, GAP, LARGEST_HOURS, LARGEST_READING};
+use sagivelume::{MOST_CODES, MOST_COEFFICIENTS, MOST_COLUMNS, MOST_RECORD_BYTES};
 
 /// A function or a struct, with types as Rust writes them.
 #[derive(Debug, PartialEq, Eq, PartialOrd, Ord)]
@@ -23,7 +26,8 @@ fn file(path: &str) -> String {
 
 /// The modules of this crate whose calls and structs are the boundary's.
 fn modules() -> String {
-    ["refusal", "table", "record", "column", "finished"].map(|name| file(&format!("user/rust/src/{name}.rs"))).concat()
+    let names = ["refusal", "sizes", "table", "record", "column", "finished"];
+    names.map(|name| file(&format!("user/rust/src/{name}.rs"))).concat()
 }
 
 /// The part of a text from after `begin` to before `end`, and what follows it.
@@ -108,10 +112,11 @@ fn structs(text: &str) -> Vec<Declared> {
 
 /// The functions of the header.
 fn c_functions(header: &str) -> Vec<Declared> {
-    let declared = all_between(header, "\nstruct ", ";\n").into_iter().filter_map(|text| {
-        let (head, list) = text.strip_suffix(')')?.split_once('(')?;
-        let (gives, name) = head.split_once(' ')?;
-        Some(Declared { name: name.into(), parts: parts(list, ',', of_c), gives: c_type(gives) })
+    let declared = header.split(";\n").filter_map(|text| {
+        let (head, list) = text.strip_suffix(')')?.rsplit_once('(')?;
+        let (gives, name) = head.lines().last()?.rsplit_once(' ')?;
+        let gives = c_type(gives.trim_start_matches("struct "));
+        Some(Declared { name: name.into(), parts: parts(list, ',', of_c), gives })
     });
     declared.collect()
 }
@@ -159,18 +164,56 @@ fn structs_are_those_of_the_boundary() {
 #[test]
 fn constants_are_those_of_the_store() {
     let words = file("crates/words/src/lib.rt");
+    let of_store = |name| {
+        let (declared, _) = between(&words, &format!("pub const {name}: "), ";")?;
+        let (_, value) = declared.split_once(" = ")?;
+        Some(value.replace('_', ""))
+    };
+    let own = [
+        ("LARGEST_HOURS", LARGEST_HOURS.to_string()),
+        ("LARGEST_READING", LARGEST_READING.to_string()),
+        ("GAP", GAP.to_string()),
+        ("MOST_COLUMNS", MOST_COLUMNS.to_string()),
+    ];
+    for (name, value) in &own {
+        assert_eq!(of_store(name).as_ref(), Some(value), "{name}");
+    }
+    let of_tables = [
+        ("MOST_COEFFICIENTS", MOST_COEFFICIENTS.to_string()),
+        ("MOST_CODES", MOST_CODES.to_string()),
+        ("MOST_RECORD_BYTES", MOST_RECORD_BYTES.to_string()),
+    ];
+
     let header = file("user/include/sagivelume.h");
     let defined = all_between(&header, "#define SAGIVELUME_", "\n").into_iter().filter_map(|line| line.split_once(' '));
-    let mut constants = 0;
-    for (name, value) in defined {
-        let (of_store, _) = between(&words, &format!("pub const {name}: "), ";").expect(name);
-        let (_, of_store) = of_store.split_once(" = ").expect("a value");
-        assert_eq!(value, of_store.replace('_', ""), "{name}");
-        constants += 1;
-    }
-    assert_eq!(constants, 4);
-    let (gap, _) = between(&words, "pub const GAP: i32 = ", ";").expect("the gap");
-    assert_eq!(sagivelume::GAP.to_string(), gap.replace('_', ""));
+    let defined: Vec<_> = defined.filter(|(name, _)| !name.starts_with("VERSION") && !name.contains('(')).collect();
+    let expected: Vec<_> = own.iter().chain(&of_tables).map(|(name, value)| (*name, value.as_str())).collect();
+    assert_eq!(defined, expected);
+}
+
+/// A table of that many coefficients and codes, and a record of that many bytes, is the largest that there is.
+#[test]
+fn the_largest_buffers_are_just_long_enough() {
+    let readings = [7; LARGEST_HOURS];
+    let (mut coefficients, mut codes) = ([0; MOST_COEFFICIENTS], [0; MOST_CODES]);
+    let mut record = [0; MOST_RECORD_BYTES];
+    let short = Err(Refusal { number: Refusal::SHORT_BUFFER, place: 0 });
+    assert_eq!(sagivelume::make(LARGEST_HOURS, &readings, &mut coefficients[1..], &mut codes), short);
+    assert_eq!(sagivelume::make(LARGEST_HOURS, &readings, &mut coefficients, &mut codes[1..]), short);
+    assert_eq!(sagivelume::make(LARGEST_HOURS, &readings, &mut coefficients, &mut codes), Ok(()));
+    let written = sagivelume::write_record(LARGEST_HOURS, &coefficients, &codes, &mut record);
+    assert_eq!(written, Ok(MOST_RECORD_BYTES));
+}
+
+#[test]
+fn the_version_is_that_of_the_header() {
+    let header = file("user/include/sagivelume.h");
+    let version = env!("CARGO_PKG_VERSION");
+    assert!(header.contains(&format!("\n#define SAGIVELUME_VERSION \"{version}\"\n")));
+    assert!(file("user/lib/pkgconfig/sagivelume.pc").contains(&format!("\nVersion: {version}\n")));
+
+    let number = version.split('.').fold(0, |number, part| number * 100 + part.parse::<u32>().expect("a number"));
+    assert!(header.contains(&format!("\n#define SAGIVELUME_VERSION_NUMBER {number}\n")));
 }
 
 /// The numbers of a call's refusals, in the order in which the comment before it has them.
@@ -197,17 +240,76 @@ fn refusals_are_in_the_order_of_the_boundary() {
     }
 }
 
+/// `BadHours` as a constant is `BAD_HOURS`.
+fn constant(name: &str) -> String {
+    let mut word = String::new();
+    for letter in name.chars() {
+        if letter.is_uppercase() && !word.is_empty() {
+            word.push('_');
+        }
+        word.push(letter.to_ascii_uppercase());
+    }
+    word
+}
+
 #[test]
-fn causes_are_those_of_the_header() {
+fn refusals_are_those_of_the_store() {
+    let words = file("crates/words/src/lib.rt");
+    let (numbers, _) = between(&words, "pub fn number_of", "\n}").expect("the numbers");
+    let of_store: Vec<[String; 2]> = all_between(numbers, "Refusal::", ",")
+        .into_iter()
+        .map(|row| row.split_once(" => ").expect("a number"))
+        .map(|(name, number)| [constant(name.trim_end_matches("(_)")), number.into()])
+        .collect();
+    assert_eq!(of_store.len(), 13);
+
     let header = file("user/include/sagivelume.h");
     let refusal = file("user/rust/src/refusal.rs");
-    let mut causes = 0;
-    for row in all_between(&refusal, "\n/// | ", " |") {
-        let Ok(number) = row.parse::<u8>() else { continue };
-        let (cause, _) = between(&refusal, &format!("\n/// | {number} | "), " |").expect("a cause");
-        let cause = cause.replace('≤', "<=");
-        assert!(header.contains(&format!("\n *    {number:6}  {cause}  ")), "{number}: {cause}");
-        causes += 1;
+    let rows = all_between(&header, "REFUSAL(SAGIVELUME_", "\")");
+    let of_header: Vec<[String; 2]> = rows
+        .iter()
+        .map(|row| {
+            let [word, number, cause] = row.splitn(3, ", ").collect::<Vec<_>>().try_into().expect("three parts");
+            let cause = cause.trim_start_matches('"');
+            assert!(refusal.contains(&format!("\n    {word} {number} \"{cause}\"\n")), "{row}");
+            let told = Refusal { number: number.parse().expect("a number"), place: 0 };
+            assert_eq!(told.cause(), cause);
+            [word.into(), number.into()]
+        })
+        .collect();
+    assert_eq!(of_header, of_store);
+}
+
+/// The page of the package has each refusal with its cause, and that of the record those of reading in their order.
+#[test]
+fn pages_have_the_refusals() {
+    let page = file("docs/PACKAGE.md");
+    let header = file("user/include/sagivelume.h");
+    let rows = all_between(&header, "REFUSAL(SAGIVELUME_", "\")");
+    for row in rows {
+        let [word, number, cause] = row.splitn(3, ", ").collect::<Vec<_>>().try_into().expect("three parts");
+        assert!(page.contains(&format!("\n| {number} | `{word}` | {}", cause.trim_start_matches('"'))), "{row}");
     }
-    assert_eq!(causes, 12);
+
+    let record = file("docs/RECORD.md");
+    let (_, table) = record.split_once("## What is refused").expect("a table");
+    let numbers: Vec<u8> = all_between(table, "\n| ", " |").into_iter().filter_map(|row| row.parse().ok()).collect();
+    let order = refusals(&file("crates/sagivelume/src/lib.rt"), "fn sagivelume_read_record(");
+    assert_eq!(numbers, [order, vec![13]].concat());
+}
+
+#[test]
+fn every_call_and_constant_has_an_example() {
+    let modules = modules();
+    let mut shown = 0;
+    for (before, after) in modules.match_indices("pub fn ").chain(modules.match_indices("pub const ")) {
+        let name = modules[before + after.len()..].split(['(', ':']).next().expect("a name");
+        if name == "$word" {
+            continue;
+        }
+        let comment = modules[..before].rsplit("\n\n").next().expect("a last part");
+        assert!(comment.contains("/// ```"), "{name}");
+        shown += 1;
+    }
+    assert!(shown > 12, "{shown}");
 }
