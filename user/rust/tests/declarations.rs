@@ -1,12 +1,13 @@
 //! The C header, and this crate's own declarations, held against the boundary's source in Rattle: the same functions in
-//! the same order, with the same parameters of the same width, the same structs with the same fields, the same
-//! constants, and the same refusals in the same order. A linker checks none of it.
+//! the same order, with the same parameters of the same width, the same structs with the same fields, and the same
+//! constants. A linker checks none of it.
 
-use std::fs;
-use std::path::Path;
+mod source;
 
 use sagivelume::{Refusal, GAP, LARGEST_HOURS, LARGEST_READING};
 use sagivelume::{MOST_CODES, MOST_COEFFICIENTS, MOST_COLUMNS, MOST_RECORD_BYTES};
+
+use source::{all_between, between, file, modules};
 
 /// A function or a struct, with types as Rust writes them.
 #[derive(Debug, PartialEq, Eq, PartialOrd, Ord)]
@@ -16,34 +17,6 @@ struct Declared {
     parts: Vec<[String; 2]>,
     /// What a function gives back; empty for a struct.
     gives: String,
-}
-
-/// A file of the repository.
-fn file(path: &str) -> String {
-    let root = Path::new(env!("CARGO_MANIFEST_DIR")).join("../..");
-    fs::read_to_string(root.join(path)).unwrap_or_else(|why| panic!("{path}: {why}"))
-}
-
-/// The modules of this crate whose calls and structs are the boundary's.
-fn modules() -> String {
-    let names = ["refusal", "sizes", "table", "record", "column", "finished"];
-    names.map(|name| file(&format!("user/rust/src/{name}.rs"))).concat()
-}
-
-/// The part of a text from after `begin` to before `end`, and what follows it.
-fn between<'a>(text: &'a str, begin: &str, end: &str) -> Option<(&'a str, &'a str)> {
-    let (_, rest) = text.split_once(begin)?;
-    rest.split_once(end)
-}
-
-/// Every part of a text from after `begin` to before `end`.
-fn all_between<'a>(mut text: &'a str, begin: &str, end: &str) -> Vec<&'a str> {
-    let mut parts = vec![];
-    while let Some((part, rest)) = between(text, begin, end) {
-        parts.push(part);
-        text = rest;
-    }
-    parts
 }
 
 /// `name: type`, in Rattle or in Rust. A slice of Rattle passes as a pointer and then a length.
@@ -214,88 +187,6 @@ fn the_version_is_that_of_the_header() {
 
     let number = version.split('.').fold(0, |number, part| number * 100 + part.parse::<u32>().expect("a number"));
     assert!(header.contains(&format!("\n#define SAGIVELUME_VERSION_NUMBER {number}\n")));
-}
-
-/// The numbers of a call's refusals, in the order in which the comment before it has them.
-fn refusals(text: &str, call: &str) -> Vec<u8> {
-    let (before, _) = text.split_once(call).unwrap_or_else(|| panic!("no {call}"));
-    let comment = before.rsplit("\n\n").next().expect("a last part").split_whitespace();
-    let mut words = comment.filter(|word| !["*", "//", "///"].contains(word));
-    words.find(|word| word.trim_start_matches('[').starts_with("Refusals"));
-    words.map_while(|word| word.trim_end_matches([',', '.', ':']).parse().ok()).collect()
-}
-
-#[test]
-fn refusals_are_in_the_order_of_the_boundary() {
-    let boundary = file("crates/sagivelume/src/lib.rt");
-    let header = file("user/include/sagivelume.h");
-    let modules = modules();
-    let calls = all_between(&boundary, "extern \"C\" fn sagivelume_", "(");
-    assert_eq!(calls.len(), 12);
-    for call in calls {
-        let order = refusals(&boundary, &format!("fn sagivelume_{call}("));
-        assert_eq!(order.is_empty(), ["level", "join"].contains(&call), "{call}");
-        assert_eq!(refusals(&header, &format!(" sagivelume_{call}(")), order, "{call}");
-        assert_eq!(refusals(&modules, &format!("pub fn {call}(")), order, "{call}");
-    }
-}
-
-/// `BadHours` as a constant is `BAD_HOURS`.
-fn constant(name: &str) -> String {
-    let mut word = String::new();
-    for letter in name.chars() {
-        if letter.is_uppercase() && !word.is_empty() {
-            word.push('_');
-        }
-        word.push(letter.to_ascii_uppercase());
-    }
-    word
-}
-
-#[test]
-fn refusals_are_those_of_the_store() {
-    let words = file("crates/words/src/lib.rt");
-    let (numbers, _) = between(&words, "pub fn number_of", "\n}").expect("the numbers");
-    let of_store: Vec<[String; 2]> = all_between(numbers, "Refusal::", ",")
-        .into_iter()
-        .map(|row| row.split_once(" => ").expect("a number"))
-        .map(|(name, number)| [constant(name.trim_end_matches("(_)")), number.into()])
-        .collect();
-    assert_eq!(of_store.len(), 13);
-
-    let header = file("user/include/sagivelume.h");
-    let refusal = file("user/rust/src/refusal.rs");
-    let rows = all_between(&header, "REFUSAL(SAGIVELUME_", "\")");
-    let of_header: Vec<[String; 2]> = rows
-        .iter()
-        .map(|row| {
-            let [word, number, cause] = row.splitn(3, ", ").collect::<Vec<_>>().try_into().expect("three parts");
-            let cause = cause.trim_start_matches('"');
-            assert!(refusal.contains(&format!("\n    {word} {number} \"{cause}\"\n")), "{row}");
-            let told = Refusal { number: number.parse().expect("a number"), place: 0 };
-            assert_eq!(told.cause(), cause);
-            [word.into(), number.into()]
-        })
-        .collect();
-    assert_eq!(of_header, of_store);
-}
-
-/// The page of the package has each refusal with its cause, and that of the record those of reading in their order.
-#[test]
-fn pages_have_the_refusals() {
-    let page = file("docs/PACKAGE.md");
-    let header = file("user/include/sagivelume.h");
-    let rows = all_between(&header, "REFUSAL(SAGIVELUME_", "\")");
-    for row in rows {
-        let [word, number, cause] = row.splitn(3, ", ").collect::<Vec<_>>().try_into().expect("three parts");
-        assert!(page.contains(&format!("\n| {number} | `{word}` | {}", cause.trim_start_matches('"'))), "{row}");
-    }
-
-    let record = file("docs/RECORD.md");
-    let (_, table) = record.split_once("## What is refused").expect("a table");
-    let numbers: Vec<u8> = all_between(table, "\n| ", " |").into_iter().filter_map(|row| row.parse().ok()).collect();
-    let order = refusals(&file("crates/sagivelume/src/lib.rt"), "fn sagivelume_read_record(");
-    assert_eq!(numbers, [order, vec![13]].concat());
 }
 
 #[test]
