@@ -53,7 +53,7 @@ pub struct Column {
 /// assert_eq!(sagivelume::edges(64, third(0))?, 0..22);
 /// assert_eq!(sagivelume::edges(64, third(1))?, 22..43);
 /// assert_eq!(sagivelume::edges(64, third(2))?, 43..64);
-/// assert_eq!(sagivelume::edges(64, third(3)), Err(Refusal { number: 6, place: 0 }));
+/// assert_eq!(sagivelume::edges(64, third(3)), Err(Refusal { number: Refusal::BAD_COLUMN, place: 0 }));
 ///
 /// assert!(sagivelume::edges(2, Column { a: 0, b: 2, w: 4, k: 1 })?.is_empty());
 /// # Ok::<(), Refusal>(())
@@ -105,7 +105,7 @@ pub struct Stopped {
 /// assert_eq!(finer.inner, Some(LowHigh { low: 41_200, high: 41_350 }));
 ///
 /// let too_deep = sagivelume::stopped(7, &coefficients, &codes, column, 4);
-/// assert_eq!(too_deep, Err(Refusal { number: 7, place: 0 }));
+/// assert_eq!(too_deep, Err(Refusal { number: Refusal::TOO_DEEP, place: 0 }));
 /// # Ok::<(), Refusal>(())
 /// ```
 pub fn stopped(n: usize, coefficients: &[i32], codes: &[u8], column: Column, d: usize) -> Result<Stopped, Refusal> {

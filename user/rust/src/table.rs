@@ -36,7 +36,7 @@ pub const LARGEST_READING: i32 = 1_000_000;
 /// assert_eq!(codes, [1, 3, 1, 4]);
 ///
 /// let refused = sagivelume::make(2, &[0, 1_000_001], &mut coefficients, &mut codes);
-/// assert_eq!(refused, Err(Refusal { number: 2, place: 1 }));
+/// assert_eq!(refused, Err(Refusal { number: Refusal::BAD_READING, place: 1 }));
 /// # Ok::<(), Refusal>(())
 /// ```
 pub fn make(n: usize, readings: &[i32], coefficients: &mut [i32], codes: &mut [u8]) -> Result<(), Refusal> {
@@ -57,7 +57,7 @@ pub fn make(n: usize, readings: &[i32], coefficients: &mut [i32], codes: &mut [u
 /// assert_eq!(hours, [GAP; 3]);
 ///
 /// let refused = sagivelume::turn_back(2, &[5, 5], &[1], &mut hours);
-/// assert_eq!(refused, Err(Refusal { number: 4, place: 1 }));
+/// assert_eq!(refused, Err(Refusal { number: Refusal::UNSOUND, place: 1 }));
 /// # Ok::<(), Refusal>(())
 /// ```
 pub fn turn_back(n: usize, coefficients: &[i32], codes: &[u8], hours: &mut [i32]) -> Result<(), Refusal> {
