@@ -1,7 +1,7 @@
 //! Links the archive of the proved store, `libsagivelume.a`. It lies in the folder that the environment variable
-//! `SAGIVELUME_LIB` names, where it is set and not empty; else in `lib` beside this package, where it is taken away with
-//! it; else in the repository's `target/staticlib`. A relative `SAGIVELUME_LIB` is a path from the folder in which cargo
-//! is run, as the shell tells it in `PWD`, since cargo runs this program in another one.
+//! `SAGIVELUME_LIB` names, where that is set and not empty; else in `lib` beside this package, where it is taken away
+//! with it; else in the repository's `target/staticlib`. A relative `SAGIVELUME_LIB` is a path from the folder in which
+//! cargo is run, as the shell tells it in `PWD`, since cargo runs this program in another one.
 
 use std::env;
 use std::path::{Path, PathBuf};
