@@ -3,8 +3,7 @@
  *
  * A series of n hours, 1 to 16,384, holds in each hour a reading, -1,000,000 to 1,000,000 grams, or a gap, 2,000,003.
  * Its table has P coefficients and P/2 codes, where P is the smallest power of two that is at least n and at least 2.
- * Its record has 7 + 3P + P/2 bytes. The greatest P is 16,384, so that buffers of 16,384 coefficients, 8,192 codes and
- * 57,351 bytes serve every n.
+ * Its record has 7 + 3P + P/2 bytes.
  *
  * In a table, coefficients 0 and 1 are the lowest and the highest reading, coefficients 2i and 2i + 1 the details of
  * node i, and code k is that of hours 2k and 2k + 1. RECORD.md says what details and codes mean.
@@ -12,28 +11,13 @@
  * Every call ends with an answer, whatever the numbers and whatever the buffers hold. A buffer passes as a pointer and
  * then its length in elements; a longer one than needed is taken, and what lies beyond changes no answer and stays as
  * it was. Only the bytes of a record to be read or opened must be the record and no more. The caller sees to what C
- * cannot check: that the pointer is that of so many live elements, aligned and not null even if the length is 0, and
- * that a buffer to be written overlaps no other of the call. No call keeps a pointer, allocates, or touches anything
- * else, so that calls on different buffers may run at once.
+ * cannot check: that the pointer is that of so many live elements and aligned, and that a buffer to be written overlaps
+ * no other of the call. Where the length is 0 the pointer is not followed and may be null. No call keeps a pointer,
+ * allocates, or touches anything else, so that calls on different buffers may run at once.
  *
  * Of every call but level and join, which refuse nothing, the answer begins with a refusal's number and its place, both
  * 0 where the call is taken. A refused call writes nothing, and the other fields of its answer are 0. Where a call has
- * several causes, the first in the order given with it is told.
- *
- *    number  cause                                                       place
- *         1  n is 0 or over 16,384                                       0
- *         2  an hour holds neither a reading nor a gap                   the first such hour
- *         3  a buffer is shorter than needed                             0
- *         4  a node that is examined fits no series of n hours           the number of the first such node,
- *                                                                        0 for coefficients 0 and 1
- *         5  not a < b <= n, or the day begins at hour n or later        0
- *         6  w is 0 or over 4,096, or the column is not below w          0
- *         7  the depth is over l, where P is 2 to the power l            0
- *         8  the bytes end before the record, or the coefficient, does   0
- *         9  the record's version is not 1                               0
- *        10  the record's length field is not that of its n              0
- *        11  bytes follow the record                                     0
- *        13  the place asked for is not below the number of places       0
+ * several causes, the first in the order given with it is told. SAGIVELUME_REFUSALS lists them.
  *
  * Turning back, writing and reading examine every node, so that what they take is the table of a series. Columns and
  * the day change examine the nodes on their way alone: of a table that no series has they may answer all the same.
@@ -44,14 +28,45 @@
 #include <stddef.h>
 #include <stdint.h>
 
-#ifdef __cplusplus
-extern "C" {
-#endif
+/* The version of this header and its library; as a number it is 10000 * major + 100 * minor + patch. */
+#define SAGIVELUME_VERSION "0.1.0"
+#define SAGIVELUME_VERSION_NUMBER 100
 
 #define SAGIVELUME_LARGEST_HOURS 16384
 #define SAGIVELUME_LARGEST_READING 1000000
 #define SAGIVELUME_GAP 2000003
 #define SAGIVELUME_MOST_COLUMNS 4096
+
+/* Buffers of so many coefficients, codes and bytes serve every n. */
+#define SAGIVELUME_MOST_COEFFICIENTS 16384
+#define SAGIVELUME_MOST_CODES 8192
+#define SAGIVELUME_MOST_RECORD_BYTES 57351
+
+/* The refusals: word, number and cause of each, for a macro of one's own, as in c/draw.c. The place told with a refusal
+ * is the first such hour for 2; the number of the first such node for 4, 0 for coefficients 0 and 1; the line for 12,
+ * which is the printer's and no call's; and 0 for all others. */
+#define SAGIVELUME_REFUSALS(REFUSAL) \
+    REFUSAL(SAGIVELUME_BAD_HOURS, 1, "n is 0 or over 16,384") \
+    REFUSAL(SAGIVELUME_BAD_READING, 2, "an hour holds neither a reading nor a gap") \
+    REFUSAL(SAGIVELUME_SHORT_BUFFER, 3, "a buffer is shorter than needed") \
+    REFUSAL(SAGIVELUME_UNSOUND, 4, "a node that is examined fits no series of n hours") \
+    REFUSAL(SAGIVELUME_BAD_WINDOW, 5, "not a < b <= n, or the day begins at hour n or later") \
+    REFUSAL(SAGIVELUME_BAD_COLUMN, 6, "w is 0 or over 4,096, or the column is not below w") \
+    REFUSAL(SAGIVELUME_TOO_DEEP, 7, "the depth is over l, where P is 2 to the power l") \
+    REFUSAL(SAGIVELUME_CUT_SHORT, 8, "the bytes end before the record, or the coefficient, does") \
+    REFUSAL(SAGIVELUME_BAD_VERSION, 9, "the record's version is not 1") \
+    REFUSAL(SAGIVELUME_BAD_LENGTH, 10, "the record's length field is not that of its n") \
+    REFUSAL(SAGIVELUME_BYTES_AFTER, 11, "bytes follow the record") \
+    REFUSAL(SAGIVELUME_BAD_LINE, 12, "a line of the text is bad") \
+    REFUSAL(SAGIVELUME_BAD_PLACE, 13, "the place asked for is not below the number of places")
+
+#define SAGIVELUME_NUMBERED(word, number, cause) word = number,
+enum sagivelume_refusal { SAGIVELUME_REFUSALS(SAGIVELUME_NUMBERED) SAGIVELUME_TAKEN = 0 };
+#undef SAGIVELUME_NUMBERED
+
+#ifdef __cplusplus
+extern "C" {
+#endif
 
 /* Taken, or refused. */
 struct sagivelume_told {
@@ -102,8 +117,12 @@ struct sagivelume_told_column {
     size_t upto;
 };
 
-/* A column stopped at a depth: its outer and its inner range, and how many nodes were visited. Low and high of a range
- * that is absent are both 2,000,003. */
+/* A column stopped at a depth: its outer and its inner range, and how many nodes were visited. The outer range spans
+ * the nodes at which the visit stopped that share an hour with the column, the inner those of them that lie within it.
+ * So, in the table of a series, every reading of the column is in the outer range, and the inner lies between its
+ * lowest and its highest: the outer is what the column may hold, the inner what it holds for certain. A deeper stop
+ * never widens the outer and never narrows the inner; at depth l they are the same. Low and high of a range that is
+ * absent, since none of its nodes has a reading, are both 2,000,003. */
 struct sagivelume_told_ranges {
     size_t number;
     size_t place;
@@ -185,8 +204,9 @@ struct sagivelume_told_hours sagivelume_read_record(
 struct sagivelume_told_record sagivelume_open_record(
     const uint8_t *bytes, size_t bytes_length);
 
-/* Asks a record for the coefficient at a place. `places` is P as opening answered it for these bytes: it is taken as it
- * is, nothing else of the record is looked at, and with another P the answer is not the record's. Refusals 13, 8. */
+/* Asks a record for the coefficient at a place. It trusts `places`, which is to be P as opening answered it for these
+ * bytes: neither that number nor the record is checked again. With another number no byte beyond the lent ones is read,
+ * but what is answered is not the record's. Refusals 13, 8. */
 struct sagivelume_told_coefficient sagivelume_ask(
     const uint8_t *bytes, size_t bytes_length,
     size_t places,

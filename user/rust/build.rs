@@ -1,6 +1,7 @@
 //! Links the archive of the proved store, `libsagivelume.a`. It lies in the folder that the environment variable
-//! `SAGIVELUME_LIB` names, an absolute path; else in `lib` beside this package, where it is taken away with it; else in
-//! the repository's `target/staticlib`.
+//! `SAGIVELUME_LIB` names, where that is set and not empty; else in `lib` beside this package, where it is taken away
+//! with it; else in the repository's `target/staticlib`. A relative `SAGIVELUME_LIB` is a path from the folder in which
+//! cargo is run, as the shell tells it in `PWD`, since cargo runs this program in another one.
 
 use std::env;
 use std::path::{Path, PathBuf};
@@ -11,11 +12,18 @@ const ARCHIVE: &str = "libsagivelume.a";
 /// The folder of the archive.
 fn folder(package: &Path) -> PathBuf {
     let beside = package.join("../lib");
-    match env::var_os(FOLDER) {
-        Some(named) => PathBuf::from(named),
+    match env::var_os(FOLDER).filter(|named| !named.is_empty()).map(PathBuf::from) {
+        Some(named) if named.is_absolute() => named,
+        Some(named) => run_in(package).join(named),
         None if beside.join(ARCHIVE).is_file() => beside,
         None => package.join("../../target/staticlib"),
     }
+}
+
+/// The folder in which cargo is run; the package's, if there is no telling.
+fn run_in(package: &Path) -> PathBuf {
+    println!("cargo::rerun-if-env-changed=PWD");
+    env::var_os("PWD").map_or_else(|| package.to_owned(), PathBuf::from)
 }
 
 fn main() {

@@ -1,10 +1,23 @@
 //! Columns: their edges, and answers stopped at a depth.
 
-use std::ops::Range;
+use core::ops::Range;
 
 use crate::linked;
 use crate::refusal::{Refusal, Told};
 use crate::table::GAP;
+
+/// The most columns of a window, the largest w.
+///
+/// ```
+/// use sagivelume::{Column, Refusal, MOST_COLUMNS};
+///
+/// let first_of = |w| Column { a: 0, b: 7, w, k: 0 };
+/// assert!(sagivelume::edges(7, first_of(MOST_COLUMNS)).is_ok());
+///
+/// let refused = sagivelume::edges(7, first_of(MOST_COLUMNS + 1));
+/// assert_eq!(refused, Err(Refusal { number: Refusal::BAD_COLUMN, place: 0 }));
+/// ```
+pub const MOST_COLUMNS: usize = 4_096;
 
 /// Column k of the window [a, b) drawn in w columns. Nothing is checked until a call takes it.
 ///
@@ -40,7 +53,7 @@ pub struct Column {
 /// assert_eq!(sagivelume::edges(64, third(0))?, 0..22);
 /// assert_eq!(sagivelume::edges(64, third(1))?, 22..43);
 /// assert_eq!(sagivelume::edges(64, third(2))?, 43..64);
-/// assert_eq!(sagivelume::edges(64, third(3)), Err(Refusal { number: 6, place: 0 }));
+/// assert_eq!(sagivelume::edges(64, third(3)), Err(Refusal { number: Refusal::BAD_COLUMN, place: 0 }));
 ///
 /// assert!(sagivelume::edges(2, Column { a: 0, b: 2, w: 4, k: 1 })?.is_empty());
 /// # Ok::<(), Refusal>(())
@@ -61,9 +74,11 @@ pub struct LowHigh {
 /// The answer of a column stopped at a depth. That of a column without an hour has no range and count 0.
 #[derive(Clone, Copy, Debug, PartialEq, Eq)]
 pub struct Stopped {
-    /// Over the visited, unopened nodes that share an hour with the column, if one of them has a reading.
+    /// Over the visited, unopened nodes that share an hour with the column, if one of them has a reading. In the table
+    /// of a series every reading of the column is in it: it is what the column may hold.
     pub outer: Option<LowHigh>,
-    /// The same over those wholly inside it.
+    /// The same over those wholly inside it. In the table of a series it lies between the lowest and the highest
+    /// reading of the column: it is what the column holds for certain. At depth l it is the outer range.
     pub inner: Option<LowHigh>,
     /// The number of visited nodes: at depth d at most 4·d − 1, and 1 at depth 0.
     pub count: usize,
@@ -90,7 +105,7 @@ pub struct Stopped {
 /// assert_eq!(finer.inner, Some(LowHigh { low: 41_200, high: 41_350 }));
 ///
 /// let too_deep = sagivelume::stopped(7, &coefficients, &codes, column, 4);
-/// assert_eq!(too_deep, Err(Refusal { number: 7, place: 0 }));
+/// assert_eq!(too_deep, Err(Refusal { number: Refusal::TOO_DEEP, place: 0 }));
 /// # Ok::<(), Refusal>(())
 /// ```
 pub fn stopped(n: usize, coefficients: &[i32], codes: &[u8], column: Column, d: usize) -> Result<Stopped, Refusal> {

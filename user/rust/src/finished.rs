@@ -96,7 +96,7 @@ pub fn join(left: Answer, right: Answer) -> Answer {
 /// assert_eq!(sagivelume::day_change(3, &[GAP; 4], &[4, 4], 0)?, None);
 ///
 /// let refused = sagivelume::day_change(7, &coefficients, &[1, 3, 1, 4], 1);
-/// assert_eq!(refused, Err(Refusal { number: 5, place: 0 }));
+/// assert_eq!(refused, Err(Refusal { number: Refusal::BAD_WINDOW, place: 0 }));
 /// # Ok::<(), Refusal>(())
 /// ```
 pub fn day_change(n: usize, coefficients: &[i32], codes: &[u8], day: usize) -> Result<Option<i32>, Refusal> {

@@ -3,7 +3,8 @@
 //! A series of n hours, 1 to 16,384, holds a reading in grams or a gap in each hour. Its table has P coefficients and
 //! P/2 codes, where P is the smallest power of two that is at least n and at least 2. The functions here check
 //! nothing themselves: every one is a call of the proved store, which takes any numbers and buffers of any length,
-//! empty ones too. A refused call writes nothing, and no call writes beyond what it needs of a longer buffer.
+//! empty ones too. A refused call writes nothing, and no call writes beyond what it needs of a longer buffer. The crate
+//! is `no_std`.
 //!
 //! ```
 //! use sagivelume::GAP;
@@ -28,16 +29,20 @@
 //! # Ok::<(), sagivelume::Refusal>(())
 //! ```
 
+#![no_std]
+
 mod column;
 mod finished;
 #[allow(unsafe_code)]
 mod linked;
 mod record;
 mod refusal;
+mod sizes;
 mod table;
 
 pub use column::*;
 pub use finished::*;
 pub use record::*;
 pub use refusal::*;
+pub use sizes::*;
 pub use table::*;

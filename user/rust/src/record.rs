@@ -18,7 +18,7 @@ use crate::refusal::{Refusal, Told};
 /// assert_eq!(record, [0, 0, 0, 10, 1, 0, 2, 255, 255, 255, 0, 1, 244, 0, 77]);
 ///
 /// let refused = sagivelume::write_record(2, &[5, 5], &[1], &mut record);
-/// assert_eq!(refused, Err(Refusal { number: 4, place: 1 }));
+/// assert_eq!(refused, Err(Refusal { number: Refusal::UNSOUND, place: 1 }));
 /// # Ok::<(), Refusal>(())
 /// ```
 pub fn write_record(n: usize, coefficients: &[i32], codes: &[u8], bytes: &mut [u8]) -> Result<usize, Refusal> {
@@ -40,7 +40,7 @@ pub fn write_record(n: usize, coefficients: &[i32], codes: &[u8], bytes: &mut [u
 /// assert_eq!((coefficients, codes), ([-1, 500], [0]));
 ///
 /// let cut_short = sagivelume::read_record(&record[..13], &mut coefficients, &mut codes);
-/// assert_eq!(cut_short, Err(Refusal { number: 8, place: 0 }));
+/// assert_eq!(cut_short, Err(Refusal { number: Refusal::CUT_SHORT, place: 0 }));
 /// # Ok::<(), Refusal>(())
 /// ```
 pub fn read_record(bytes: &[u8], coefficients: &mut [i32], codes: &mut [u8]) -> Result<usize, Refusal> {
@@ -59,7 +59,7 @@ pub fn read_record(bytes: &[u8], coefficients: &mut [i32], codes: &mut [u8]) -> 
 /// assert_eq!(record.coefficient(1), Ok(-2));
 ///
 /// let refused = sagivelume::open_record(&[0, 0, 0, 11, 1, 0, 1]);
-/// assert_eq!(refused, Err(Refusal { number: 10, place: 0 }));
+/// assert_eq!(refused, Err(Refusal { number: Refusal::BAD_LENGTH, place: 0 }));
 /// # Ok::<(), Refusal>(())
 /// ```
 pub fn open_record(bytes: &[u8]) -> Result<Record<'_>, Refusal> {
@@ -85,11 +85,23 @@ pub struct Record<'a> {
 
 impl Record<'_> {
     /// The hours of its series, n.
+    ///
+    /// ```
+    /// let record = sagivelume::open_record(&[0, 0, 0, 10, 1, 0, 2, 255, 255, 255, 0, 1, 244, 0])?;
+    /// assert_eq!(record.hours(), 2);
+    /// # Ok::<(), sagivelume::Refusal>(())
+    /// ```
     pub fn hours(&self) -> usize {
         self.hours
     }
 
     /// The places of its coefficients, P.
+    ///
+    /// ```
+    /// let record = sagivelume::open_record(&[0, 0, 0, 10, 1, 0, 1, 0, 0, 5, 0, 0, 5, 2])?;
+    /// assert_eq!((record.hours(), record.places()), (1, 2));
+    /// # Ok::<(), sagivelume::Refusal>(())
+    /// ```
     pub fn places(&self) -> usize {
         self.places
     }
@@ -101,7 +113,7 @@ impl Record<'_> {
     ///
     /// let record = sagivelume::open_record(&[0, 0, 0, 10, 1, 0, 2, 255, 255, 255, 0, 1, 244, 0])?;
     /// assert_eq!(record.coefficient(0), Ok(-1));
-    /// assert_eq!(record.coefficient(2), Err(Refusal { number: 13, place: 0 }));
+    /// assert_eq!(record.coefficient(2), Err(Refusal { number: Refusal::BAD_PLACE, place: 0 }));
     /// # Ok::<(), Refusal>(())
     /// ```
     pub fn coefficient(&self, place: usize) -> Result<i32, Refusal> {
@@ -109,9 +121,9 @@ impl Record<'_> {
     }
 }
 
-/// The coefficient at a place of a record's bytes. `places` is P as opening answered it for these bytes: it is taken as
-/// it is, nothing else of the record is looked at, and with another P the answer is not the record's. A [`Record`] has
-/// its places from opening.
+/// The coefficient at a place of a record's bytes. `places` is trusted: it is to be P as opening answered it for these
+/// bytes, and neither it nor the record is checked again. With another number no byte beyond the lent ones is read, but
+/// what is answered is not the record's. A [`Record`] has its places from opening.
 ///
 /// [Refusals](Refusal) 13, 8.
 ///
@@ -121,8 +133,8 @@ impl Record<'_> {
 /// let bytes = [0, 0, 0, 0, 0, 0, 0, 255, 255, 249, 0, 0, 7];
 /// assert_eq!(sagivelume::ask(&bytes, 2, 0), Ok(-7));
 /// assert_eq!(sagivelume::ask(&bytes, 2, 1), Ok(7));
-/// assert_eq!(sagivelume::ask(&bytes[..12], 2, 1), Err(Refusal { number: 8, place: 0 }));
-/// assert_eq!(sagivelume::ask(&bytes, 1, 1), Err(Refusal { number: 13, place: 0 }));
+/// assert_eq!(sagivelume::ask(&bytes[..12], 2, 1), Err(Refusal { number: Refusal::CUT_SHORT, place: 0 }));
+/// assert_eq!(sagivelume::ask(&bytes, 1, 1), Err(Refusal { number: Refusal::BAD_PLACE, place: 0 }));
 /// ```
 pub fn ask(bytes: &[u8], places: usize, place: usize) -> Result<i32, Refusal> {
     linked::ask(bytes, places, place).taken()

@@ -1,43 +1,77 @@
 //! Refusals.
 
-use std::error::Error;
-use std::fmt;
+use core::error::Error;
+use core::fmt;
 
-/// A refusal: its number and its place. The place is 0 but for two of them. Where a call has several causes, the first
-/// in the order given with it is told.
-///
-/// | number | cause | place |
-/// |---|---|---|
-/// | 1 | n is 0 or over 16,384 | |
-/// | 2 | an hour holds neither a reading nor a gap | the first such hour |
-/// | 3 | a buffer is shorter than needed | |
-/// | 4 | a node that is examined fits no series of n hours | its number, 0 for the root values |
-/// | 5 | not a < b ≤ n, or the day begins at hour n or later | |
-/// | 6 | w is 0 or over 4,096, or the column is not below w | |
-/// | 7 | the depth is over l, where P is 2 to the power l | |
-/// | 8 | the bytes end before the record, or the coefficient, does | |
-/// | 9 | the record's version is not 1 | |
-/// | 10 | the record's length field is not that of its n | |
-/// | 11 | bytes follow the record | |
-/// | 13 | the place asked for is not below the number of places | |
+/// A refusal: its number and its place. Where a call has several causes, the first in the order given with it is told.
+/// The numbers are the constants below, each with its cause.
 ///
 /// ```
 /// use sagivelume::Refusal;
 ///
-/// let unsound = Refusal { number: 4, place: 7 };
-/// assert_eq!(unsound.to_string(), "refused 4 at 7");
+/// let (mut coefficients, mut codes) = ([0; 2], [0; 1]);
+/// let refused = sagivelume::make(2, &[0, 1_000_001], &mut coefficients, &mut codes).expect_err("no reading");
+/// assert_eq!(refused, Refusal { number: Refusal::BAD_READING, place: 1 });
+/// assert_eq!(refused.to_string(), "refused 2 at 1");
+/// assert_eq!(format!("{refused:#}"), "refused 2 at 1: an hour holds neither a reading nor a gap");
 /// ```
 #[derive(Clone, Copy, Debug, PartialEq, Eq)]
 pub struct Refusal {
     /// The number.
     pub number: u8,
-    /// The hour of 2, the node number of 4, and 0 for all others.
+    /// The first such hour for 2, the number of the first such node for 4, 0 for the root values, and 0 for all others.
     pub place: usize,
 }
 
+/// The constants of the refusals, each with its number and its cause.
+macro_rules! refusals {
+    ($($word:ident $number:literal $cause:literal)*) => {
+        impl Refusal {
+            $(
+                #[doc = concat!($cause, ".")]
+                pub const $word: u8 = $number;
+            )*
+
+            /// Its cause in words; nothing for a number that no refusal has.
+            ///
+            /// ```
+            /// let refused = sagivelume::open_record(&[]).expect_err("no record");
+            /// assert_eq!(refused.cause(), "the bytes end before the record, or the coefficient, does");
+            /// ```
+            pub fn cause(&self) -> &'static str {
+                match self.number {
+                    $($number => $cause,)*
+                    _ => "",
+                }
+            }
+        }
+    };
+}
+
+refusals! {
+    BAD_HOURS 1 "n is 0 or over 16,384"
+    BAD_READING 2 "an hour holds neither a reading nor a gap"
+    SHORT_BUFFER 3 "a buffer is shorter than needed"
+    UNSOUND 4 "a node that is examined fits no series of n hours"
+    BAD_WINDOW 5 "not a < b <= n, or the day begins at hour n or later"
+    BAD_COLUMN 6 "w is 0 or over 4,096, or the column is not below w"
+    TOO_DEEP 7 "the depth is over l, where P is 2 to the power l"
+    CUT_SHORT 8 "the bytes end before the record, or the coefficient, does"
+    BAD_VERSION 9 "the record's version is not 1"
+    BAD_LENGTH 10 "the record's length field is not that of its n"
+    BYTES_AFTER 11 "bytes follow the record"
+    BAD_LINE 12 "a line of the text is bad"
+    BAD_PLACE 13 "the place asked for is not below the number of places"
+}
+
+/// The line that document 01 has for a refusal; with `{:#}` the cause follows.
 impl fmt::Display for Refusal {
     fn fmt(&self, f: &mut fmt::Formatter<'_>) -> fmt::Result {
-        write!(f, "refused {} at {}", self.number, self.place)
+        write!(f, "refused {} at {}", self.number, self.place)?;
+        if f.alternate() {
+            write!(f, ": {}", self.cause())?;
+        }
+        Ok(())
     }
 }
 

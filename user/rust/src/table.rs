@@ -10,6 +10,18 @@ use crate::refusal::Refusal;
 /// ```
 pub const GAP: i32 = 2_000_003;
 
+/// The largest reading in grams; the least is as far below 0.
+///
+/// ```
+/// use sagivelume::LARGEST_READING;
+///
+/// let (mut coefficients, mut codes) = ([0; 2], [0; 1]);
+/// sagivelume::make(2, &[-LARGEST_READING, LARGEST_READING], &mut coefficients, &mut codes)?;
+/// assert_eq!(coefficients, [-1_000_000, 1_000_000]);
+/// # Ok::<(), sagivelume::Refusal>(())
+/// ```
+pub const LARGEST_READING: i32 = 1_000_000;
+
 /// Makes the table of the first n readings: writes P coefficients and P/2 codes.
 ///
 /// Needs n readings and room for P coefficients and P/2 codes. [Refusals](Refusal) 1, 3, 2.
@@ -24,7 +36,7 @@ pub const GAP: i32 = 2_000_003;
 /// assert_eq!(codes, [1, 3, 1, 4]);
 ///
 /// let refused = sagivelume::make(2, &[0, 1_000_001], &mut coefficients, &mut codes);
-/// assert_eq!(refused, Err(Refusal { number: 2, place: 1 }));
+/// assert_eq!(refused, Err(Refusal { number: Refusal::BAD_READING, place: 1 }));
 /// # Ok::<(), Refusal>(())
 /// ```
 pub fn make(n: usize, readings: &[i32], coefficients: &mut [i32], codes: &mut [u8]) -> Result<(), Refusal> {
@@ -45,7 +57,7 @@ pub fn make(n: usize, readings: &[i32], coefficients: &mut [i32], codes: &mut [u
 /// assert_eq!(hours, [GAP; 3]);
 ///
 /// let refused = sagivelume::turn_back(2, &[5, 5], &[1], &mut hours);
-/// assert_eq!(refused, Err(Refusal { number: 4, place: 1 }));
+/// assert_eq!(refused, Err(Refusal { number: Refusal::UNSOUND, place: 1 }));
 /// # Ok::<(), Refusal>(())
 /// ```
 pub fn turn_back(n: usize, coefficients: &[i32], codes: &[u8], hours: &mut [i32]) -> Result<(), Refusal> {

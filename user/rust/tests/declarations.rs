@@ -1,9 +1,13 @@
 //! The C header, and this crate's own declarations, held against the boundary's source in Rattle: the same functions in
-//! the same order, with the same parameters of the same width, the same structs with the same fields, the same
-//! constants, and the refusals in the same order. A linker checks none of it.
+//! the same order, with the same parameters of the same width, the same structs with the same fields, and the same
+//! constants. A linker checks none of it.
 
-use std::fs;
-use std::path::Path;
+mod source;
+
+use sagivelume::{Refusal, GAP, LARGEST_HOURS, LARGEST_READING};
+use sagivelume::{MOST_CODES, MOST_COEFFICIENTS, MOST_COLUMNS, MOST_RECORD_BYTES};
+
+use source::{all_between, between, file, modules};
 
 /// A function or a struct, with types as Rust writes them.
 #[derive(Debug, PartialEq, Eq, PartialOrd, Ord)]
@@ -13,33 +17,6 @@ struct Declared {
     parts: Vec<[String; 2]>,
     /// What a function gives back; empty for a struct.
     gives: String,
-}
-
-/// A file of the repository.
-fn file(path: &str) -> String {
-    let root = Path::new(env!("CARGO_MANIFEST_DIR")).join("../..");
-    fs::read_to_string(root.join(path)).unwrap_or_else(|why| panic!("{path}: {why}"))
-}
-
-/// The modules of this crate whose calls and structs are the boundary's.
-fn modules() -> String {
-    ["refusal", "table", "record", "column", "finished"].map(|name| file(&format!("user/rust/src/{name}.rs"))).concat()
-}
-
-/// The part of a text from after `begin` to before `end`, and what follows it.
-fn between<'a>(text: &'a str, begin: &str, end: &str) -> Option<(&'a str, &'a str)> {
-    let (_, rest) = text.split_once(begin)?;
-    rest.split_once(end)
-}
-
-/// Every part of a text from after `begin` to before `end`.
-fn all_between<'a>(mut text: &'a str, begin: &str, end: &str) -> Vec<&'a str> {
-    let mut parts = vec![];
-    while let Some((part, rest)) = between(text, begin, end) {
-        parts.push(part);
-        text = rest;
-    }
-    parts
 }
 
 /// `name: type`, in Rattle or in Rust. A slice of Rattle passes as a pointer and then a length.
@@ -108,10 +85,11 @@ fn structs(text: &str) -> Vec<Declared> {
 
 /// The functions of the header.
 fn c_functions(header: &str) -> Vec<Declared> {
-    let declared = all_between(header, "\nstruct ", ";\n").into_iter().filter_map(|text| {
-        let (head, list) = text.strip_suffix(')')?.split_once('(')?;
-        let (gives, name) = head.split_once(' ')?;
-        Some(Declared { name: name.into(), parts: parts(list, ',', of_c), gives: c_type(gives) })
+    let declared = header.split(";\n").filter_map(|text| {
+        let (head, list) = text.strip_suffix(')')?.rsplit_once('(')?;
+        let (gives, name) = head.lines().last()?.rsplit_once(' ')?;
+        let gives = c_type(gives.trim_start_matches("struct "));
+        Some(Declared { name: name.into(), parts: parts(list, ',', of_c), gives })
     });
     declared.collect()
 }
@@ -159,55 +137,71 @@ fn structs_are_those_of_the_boundary() {
 #[test]
 fn constants_are_those_of_the_store() {
     let words = file("crates/words/src/lib.rt");
+    let of_store = |name| {
+        let (declared, _) = between(&words, &format!("pub const {name}: "), ";")?;
+        let (_, value) = declared.split_once(" = ")?;
+        Some(value.replace('_', ""))
+    };
+    let own = [
+        ("LARGEST_HOURS", LARGEST_HOURS.to_string()),
+        ("LARGEST_READING", LARGEST_READING.to_string()),
+        ("GAP", GAP.to_string()),
+        ("MOST_COLUMNS", MOST_COLUMNS.to_string()),
+    ];
+    for (name, value) in &own {
+        assert_eq!(of_store(name).as_ref(), Some(value), "{name}");
+    }
+    let of_tables = [
+        ("MOST_COEFFICIENTS", MOST_COEFFICIENTS.to_string()),
+        ("MOST_CODES", MOST_CODES.to_string()),
+        ("MOST_RECORD_BYTES", MOST_RECORD_BYTES.to_string()),
+    ];
+
     let header = file("user/include/sagivelume.h");
     let defined = all_between(&header, "#define SAGIVELUME_", "\n").into_iter().filter_map(|line| line.split_once(' '));
-    let mut constants = 0;
-    for (name, value) in defined {
-        let (of_store, _) = between(&words, &format!("pub const {name}: "), ";").expect(name);
-        let (_, of_store) = of_store.split_once(" = ").expect("a value");
-        assert_eq!(value, of_store.replace('_', ""), "{name}");
-        constants += 1;
-    }
-    assert_eq!(constants, 4);
-    let (gap, _) = between(&words, "pub const GAP: i32 = ", ";").expect("the gap");
-    assert_eq!(sagivelume::GAP.to_string(), gap.replace('_', ""));
+    let defined: Vec<_> = defined.filter(|(name, _)| !name.starts_with("VERSION") && !name.contains('(')).collect();
+    let expected: Vec<_> = own.iter().chain(&of_tables).map(|(name, value)| (*name, value.as_str())).collect();
+    assert_eq!(defined, expected);
 }
 
-/// The numbers of a call's refusals, in the order in which the comment before it has them.
-fn refusals(text: &str, call: &str) -> Vec<u8> {
-    let (before, _) = text.split_once(call).unwrap_or_else(|| panic!("no {call}"));
-    let comment = before.rsplit("\n\n").next().expect("a last part").split_whitespace();
-    let mut words = comment.filter(|word| !["*", "//", "///"].contains(word));
-    words.find(|word| word.trim_start_matches('[').starts_with("Refusals"));
-    words.map_while(|word| word.trim_end_matches([',', '.', ':']).parse().ok()).collect()
+/// A table of that many coefficients and codes, and a record of that many bytes, is the largest that there is.
+#[test]
+fn the_largest_buffers_are_just_long_enough() {
+    let readings = [7; LARGEST_HOURS];
+    let (mut coefficients, mut codes) = ([0; MOST_COEFFICIENTS], [0; MOST_CODES]);
+    let mut record = [0; MOST_RECORD_BYTES];
+    let short = Err(Refusal { number: Refusal::SHORT_BUFFER, place: 0 });
+    assert_eq!(sagivelume::make(LARGEST_HOURS, &readings, &mut coefficients[1..], &mut codes), short);
+    assert_eq!(sagivelume::make(LARGEST_HOURS, &readings, &mut coefficients, &mut codes[1..]), short);
+    assert_eq!(sagivelume::make(LARGEST_HOURS, &readings, &mut coefficients, &mut codes), Ok(()));
+    let written = sagivelume::write_record(LARGEST_HOURS, &coefficients, &codes, &mut record);
+    assert_eq!(written, Ok(MOST_RECORD_BYTES));
 }
 
 #[test]
-fn refusals_are_in_the_order_of_the_boundary() {
-    let boundary = file("crates/sagivelume/src/lib.rt");
+fn the_version_is_that_of_the_header() {
     let header = file("user/include/sagivelume.h");
+    let version = env!("CARGO_PKG_VERSION");
+    assert!(header.contains(&format!("\n#define SAGIVELUME_VERSION \"{version}\"\n")));
+    assert!(file("user/lib/pkgconfig/sagivelume.pc").contains(&format!("\nVersion: {version}\n")));
+
+    let number = version.split('.').fold(0, |number, part| number * 100 + part.parse::<u32>().expect("a number"));
+    assert!(header.contains(&format!("\n#define SAGIVELUME_VERSION_NUMBER {number}\n")));
+}
+
+#[test]
+fn every_call_and_constant_has_an_example() {
     let modules = modules();
-    let calls = all_between(&boundary, "extern \"C\" fn sagivelume_", "(");
-    assert_eq!(calls.len(), 12);
-    for call in calls {
-        let order = refusals(&boundary, &format!("fn sagivelume_{call}("));
-        assert_eq!(order.is_empty(), ["level", "join"].contains(&call), "{call}");
-        assert_eq!(refusals(&header, &format!(" sagivelume_{call}(")), order, "{call}");
-        assert_eq!(refusals(&modules, &format!("pub fn {call}(")), order, "{call}");
+    let mut shown = 0;
+    for (at, kind) in modules.match_indices("pub fn ").chain(modules.match_indices("pub const ")) {
+        let name = modules[at + kind.len()..].split(['(', ':']).next().expect("a name");
+        // The constants of the refusals have one example together.
+        if name == "$word" {
+            continue;
+        }
+        let comment = modules[..at].rsplit("\n\n").next().expect("a last part");
+        assert!(comment.contains("/// ```"), "{name}");
+        shown += 1;
     }
-}
-
-#[test]
-fn causes_are_those_of_the_header() {
-    let header = file("user/include/sagivelume.h");
-    let refusal = file("user/rust/src/refusal.rs");
-    let mut causes = 0;
-    for row in all_between(&refusal, "\n/// | ", " |") {
-        let Ok(number) = row.parse::<u8>() else { continue };
-        let (cause, _) = between(&refusal, &format!("\n/// | {number} | "), " |").expect("a cause");
-        let cause = cause.replace('≤', "<=");
-        assert!(header.contains(&format!("\n *    {number:6}  {cause}  ")), "{number}: {cause}");
-        causes += 1;
-    }
-    assert_eq!(causes, 12);
+    assert!(shown > 12, "{shown}");
 }
