@@ -15,9 +15,10 @@
  * no other of the call. Where the length is 0 the pointer is not followed and may be null. No call keeps a pointer,
  * allocates, or touches anything else, so that calls on different buffers may run at once.
  *
- * Of every call but level and join, which refuse nothing, the answer begins with a refusal's number and its place, both
- * 0 where the call is taken. A refused call writes nothing, and the other fields of its answer are 0. Where a call has
- * several causes, the first in the order given with it is told. SAGIVELUME_REFUSALS lists them.
+ * Of every call but places, record_bytes, level and join, which refuse nothing, the answer begins with a refusal's
+ * number and its place, both 0 where the call is taken. A refused call writes nothing, and the other fields of its
+ * answer are 0. Where a call has several causes, the first in the order given with it is told. SAGIVELUME_REFUSALS
+ * lists them.
  *
  * Turning back, writing and reading examine every node, so that what they take is the table of a series. Columns and
  * the day change examine the nodes on their way alone: of a table that no series has they may answer all the same.
@@ -160,6 +161,14 @@ struct sagivelume_told_change {
     size_t found;
     int32_t grams;
 };
+
+/* How many coefficients the table of n hours has, P; it has half as many codes. 0 where n is 0 or over 16,384. */
+size_t sagivelume_places(
+    size_t n);
+
+/* How many bytes the record of n hours has, 7 + 3P + P/2. 0 where n is 0 or over 16,384. */
+size_t sagivelume_record_bytes(
+    size_t n);
 
 /* Makes the table of the first n readings. Reads n readings, writes P coefficients and P/2 codes. Refusals 1, 3, 2. */
 struct sagivelume_told sagivelume_make(

@@ -16,6 +16,10 @@ use crate::table::Stretch;
 // as `*const`, and keeps no pointer. Rattle's references reach no further and end with the call, and its compiler is
 // trusted for it.
 extern "C" {
+    fn sagivelume_places(n: usize) -> usize;
+
+    fn sagivelume_record_bytes(n: usize) -> usize;
+
     fn sagivelume_make(
         n: usize,
         readings: *const i32,
@@ -98,6 +102,18 @@ extern "C" {
         codes_length: usize,
         day: usize,
     ) -> ToldChange;
+}
+
+/// The coefficients of a table.
+pub(crate) fn places(n: usize) -> usize {
+    // SAFETY: as at the `extern` block: no slice passes.
+    unsafe { sagivelume_places(n) }
+}
+
+/// The bytes of a record.
+pub(crate) fn record_bytes(n: usize) -> usize {
+    // SAFETY: as at the `extern` block: no slice passes.
+    unsafe { sagivelume_record_bytes(n) }
 }
 
 /// Makes a table.

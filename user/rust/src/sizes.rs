@@ -1,4 +1,30 @@
-//! The largest series, and buffers that serve every series.
+//! How much to lend for a series, the largest series, and buffers that serve every series.
+
+use crate::linked;
+
+/// How many coefficients the table of n hours has, P; it has half as many codes. 0 where n is 0 or over 16,384.
+///
+/// ```
+/// let readings = [41_200, 41_350, 40_900];
+/// let p = sagivelume::places(readings.len());
+/// let (mut coefficients, mut codes) = (vec![0; p], vec![0; p / 2]);
+/// sagivelume::make(readings.len(), &readings, &mut coefficients, &mut codes)?;
+/// assert_eq!((p, sagivelume::places(0)), (4, 0));
+/// # Ok::<(), sagivelume::Refusal>(())
+/// ```
+pub fn places(n: usize) -> usize {
+    linked::places(n)
+}
+
+/// How many bytes the record of n hours has. 0 where n is 0 or over 16,384.
+///
+/// ```
+/// assert_eq!(sagivelume::record_bytes(2), 14);
+/// assert_eq!(sagivelume::record_bytes(16_385), 0);
+/// ```
+pub fn record_bytes(n: usize) -> usize {
+    linked::record_bytes(n)
+}
 
 /// The most hours of a series, the largest n.
 ///

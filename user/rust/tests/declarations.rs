@@ -114,7 +114,7 @@ fn functions_are_those_of_the_boundary() {
     let exported: Vec<Declared> =
         all_between(&boundary, "extern \"C\" fn ", "\n    ensures").into_iter().map(function).collect();
     assert_eq!(exported.len(), boundary.matches("#[no_mangle]").count());
-    assert_eq!(exported.len(), 12);
+    assert_eq!(exported.len(), 14);
 
     assert_eq!(c_functions(&file("user/include/sagivelume.h")), exported);
 

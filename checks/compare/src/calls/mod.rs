@@ -151,6 +151,8 @@ macro_rules! kinds {
 }
 
 kinds! {
+    places Places sagivelume_places
+    record_bytes RecordBytes sagivelume_record_bytes
     make Make sagivelume_make
     turn_back TurnBack sagivelume_turn_back
     level Level sagivelume_level
