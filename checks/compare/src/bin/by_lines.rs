@@ -124,6 +124,14 @@ mod tests {
     }
 
     #[test]
+    fn how_the_program_ends_counts_too() {
+        let compared = |program: &str| compare(asked(vec!["--".into(), program.into()]).expect("a command").1, &[]);
+        assert_eq!(compared("true"), Ok(()));
+        assert_eq!(compared("false"), Err(String::from("the program ends with exit status: 1")));
+        assert_eq!(compared("echo"), Err(String::from("the program gives more answers than there are calls")));
+    }
+
+    #[test]
     fn edge_calls_come_first_and_then_drawn_ones() {
         for kind in KINDS {
             let [lines, others] = [5, 6].map(|seed| lines_of(kind, seed, 100));

@@ -176,6 +176,8 @@ kinds! {
 
 #[cfg(test)]
 mod tests {
+    use std::collections::BTreeSet;
+
     use sagivelume::Refusal;
     use second::answer::answer;
 
@@ -226,8 +228,8 @@ mod tests {
         let (_, table) = readme.split_once("\n| call | answer").expect("a table of the calls");
         let (table, _) = table.split_once("\n\n").expect("the end of the table");
         let names = table.lines().filter_map(|row| row.strip_prefix("| `")?.split([' ', '`']).next());
-        let answered: Vec<&str> = names.filter(|&name| name != "print").collect();
-        let compared: Vec<&str> = KINDS.iter().map(|kind| kind.name).collect();
+        let answered: BTreeSet<&str> = names.filter(|&name| name != "print").collect();
+        let compared: BTreeSet<&str> = KINDS.iter().map(|kind| kind.name).collect();
         assert_eq!(compared, answered);
     }
 
