@@ -1,6 +1,6 @@
 /*
- * Answers calls as `second answer` does, one a line, by the calls of the archive that it is linked with. The second
- * program's README has the lines. Lines are taken to be as that page says; a name that it does not know is a bad line.
+ * Answers calls as `second answer` does, one a line, with the calls of the archive that it is linked with. The second
+ * program's README says what the lines are, and they are taken to be so; a call that is not known here is a bad line.
  */
 #include <inttypes.h>
 #include <stdio.h>
@@ -102,7 +102,7 @@ static struct sagivelume_told_answer take_answer(void)
     return answer;
 }
 
-/* Tells whether a call is taken, and tells that it is, or its refusal. */
+/* Prints that a call is taken, or its refusal, and answers whether it is taken. */
 static int tell(size_t number, size_t place)
 {
     if (number == 0)

@@ -1,6 +1,6 @@
-//! Compares a program that answers lines as `second answer` does with the second program: `answer.c`, linked with an
-//! archive that this program could not link or through C's own way of calling. Edge calls and drawn ones of every kind
-//! stand on its standard input, one a line.
+//! Compares a program that answers calls as `second answer` does, one a line, with the second program: `answer.c`,
+//! which makes them from C, for this processor or, in an emulator, for another. Edge calls of every kind stand on its
+//! standard input, and drawn ones.
 //!
 //! ```text
 //! by_lines [--seed N] [[--calls] N] -- COMMAND [ARGUMENT...]
