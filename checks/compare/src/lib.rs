@@ -1,5 +1,6 @@
-//! The calls on which the proved store is compared with the second program, and two ways of making them: a fixed
-//! number of each kind up to the first difference (the program `compare`), and a soak (the program `soak`).
+//! The calls on which the proved store is compared with the second program, and three ways of making them: a fixed
+//! number of each kind up to the first difference (the program `compare`), a soak (the program `soak`), and as lines
+//! that another program answers (the program `by_lines`).
 
 pub mod calls;
 pub mod command_line;

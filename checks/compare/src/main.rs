@@ -2,7 +2,7 @@
 //! drawn column brings the columns after it.
 //!
 //! ```text
-//! compare [--seed N] [--calls N]
+//! compare [--seed N] [[--calls] N]
 //! ```
 //!
 //! Ends with 0 if every call gave the same on both sides and every outcome that a call can have occurred, and with 1
@@ -16,7 +16,7 @@ use compare::command_line::Asked;
 use compare::compared::Difference;
 use compare::tally::Tally;
 
-const USAGE: &str = "usage: compare [--seed N] [--calls N]";
+const USAGE: &str = "usage: compare [--seed N] [[--calls] N]";
 
 /// The seed, if the command line does not say it.
 const SEED: u64 = 16_384;

@@ -29,6 +29,27 @@ fn the_stored_files_are_those_written() {
     assert!(bytes < STORED, "{bytes}");
 }
 
+/// Every number that stands before these words on a page, whose lines are joined, in the form 6,244.
+fn stated(page: &str, words: &str) -> Vec<usize> {
+    let page = page.split_whitespace().collect::<Vec<_>>().join(" ");
+    let words = format!(" {words}");
+    let before = page.match_indices(&words).map(|(at, _)| &page[..at]);
+    before.filter_map(|text| text.rsplit(' ').next()?.replace(',', "").parse().ok()).collect()
+}
+
+/// The pages that say how many vectors there are say it right, and one says it.
+#[test]
+fn the_pages_count_the_vectors() {
+    let pages = [include_str!("../../../README.md"), include_str!("../../../docs/HOUSE.md")];
+    let [calls, runs] = written().map(|files| files.outcomes.values().sum::<usize>());
+    let texts: BTreeSet<Vec<u8>> = printer::calls().into_iter().map(|call| call.input).collect();
+    for (words, count) in [("calls of the boundary", calls), ("texts for the printer", texts.len()), ("runs", runs)] {
+        let figures: Vec<usize> = pages.iter().flat_map(|page| stated(page, words)).collect();
+        assert!(!figures.is_empty(), "no page says how many {words}");
+        assert!(figures.iter().all(|&figure| figure == count), "{figures:?} {words}, and {count} are there");
+    }
+}
+
 /// Each call with the refusals that it has, and how many calls have each of its outcomes at least.
 const OUTCOMES: [(&str, &[u8], usize); 12] = [
     ("make", &[1, 2, 3], 10),

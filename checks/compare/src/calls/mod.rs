@@ -2,6 +2,8 @@
 //!
 //! A new call is a file here with its [`Call`], and its line in `kinds!`.
 
+use std::iter::successors;
+
 use sagivelume::{Answer, Reading};
 
 use crate::compared::{compare, compare_one, drawn, Compared, Difference};
@@ -100,6 +102,10 @@ pub struct Kind {
     pub soak_edges: fn(step: usize, most: usize, told: Told<'_>),
     /// Compares this many calls, drawn ones and those that belong to them, and tells of each.
     pub soak_drawn: fn(random: &mut Drawing, calls: usize, told: Told<'_>),
+    /// The first edge call and then every `step`-th, as lines for the second program.
+    pub edge_lines: fn(step: usize) -> Vec<String>,
+    /// A drawn call and those that belong to it, as lines for the second program.
+    pub drawn_lines: fn(random: &mut Drawing) -> Vec<String>,
 }
 
 /// Is told of each call.
@@ -125,6 +131,8 @@ impl Kind {
                     }
                 }
             },
+            edge_lines: |step| C::edges().iter().step_by(step).map(C::line).collect(),
+            drawn_lines: |random| successors(Some(C::draw(random)), C::next).map(|call| call.line()).collect(),
         }
     }
 }
@@ -170,6 +178,8 @@ kinds! {
 
 #[cfg(test)]
 mod tests {
+    use std::collections::BTreeSet;
+
     use sagivelume::Refusal;
     use second::answer::answer;
 
@@ -211,6 +221,18 @@ mod tests {
         called.sort_unstable();
         called.dedup();
         assert_eq!(called.len(), exported, "a kind calls what the boundary does not have");
+    }
+
+    /// A kind that is left out does not go unnoticed, also where another kind makes the same call of the boundary.
+    #[test]
+    fn every_call_that_the_second_program_answers_is_compared() {
+        let readme = include_str!("../../../second/README.md");
+        let (_, table) = readme.split_once("\n| call | answer").expect("a table of the calls");
+        let (table, _) = table.split_once("\n\n").expect("the end of the table");
+        let names = table.lines().filter_map(|row| row.strip_prefix("| `")?.split([' ', '`']).next());
+        let answered: BTreeSet<&str> = names.filter(|&name| name != "print").collect();
+        let compared: BTreeSet<&str> = KINDS.iter().map(|kind| kind.name).collect();
+        assert_eq!(compared, answered);
     }
 
     #[test]

@@ -2,7 +2,7 @@
 //! every kind come first, then drawn ones of all kinds in turns.
 //!
 //! ```text
-//! soak [--seed N] [--calls N]
+//! soak [--seed N] [[--calls] N]
 //! ```
 //!
 //! Without a seed it takes a fresh one. The seed is printed first; the same seed and the same number of calls make the
@@ -28,7 +28,7 @@ use compare::soak::{Event, Soak};
 use compare::tally::Tally;
 use progress::Progress;
 
-const USAGE: &str = "usage: soak [--seed N] [--calls N]";
+const USAGE: &str = "usage: soak [--seed N] [[--calls] N]";
 
 /// The calls, if the command line does not say them.
 const CALLS: usize = 10_000_000;
