@@ -69,6 +69,16 @@ static void turn_back(void)
                   .number;
 }
 
+static void places(void)
+{
+    refused = sagivelume_places(n) == 0;
+}
+
+static void record_bytes(void)
+{
+    refused = sagivelume_record_bytes(n) == 0;
+}
+
 static void level(void)
 {
     refused = sagivelume_level(n, j, coefficients, coefficients_length).length == 0;
@@ -129,6 +139,8 @@ static struct seen {
     void (*call)(void);
     size_t calls, refusals, deepest;
 } seen[] = {
+    {"places", places, 0, 0, 0},
+    {"record_bytes", record_bytes, 0, 0, 0},
     {"make", make, 0, 0, 0},
     {"turn_back", turn_back, 0, 0, 0},
     {"level", level, 0, 0, 0},

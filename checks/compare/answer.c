@@ -144,6 +144,16 @@ static void show_answer(struct sagivelume_told_answer answer)
         printf(" - - - - - -");
 }
 
+static void places(void)
+{
+    printf("taken %zu", sagivelume_places(take_size()));
+}
+
+static void record_bytes(void)
+{
+    printf("taken %zu", sagivelume_record_bytes(take_size()));
+}
+
 static void make(void)
 {
     size_t n = take_size();
@@ -291,6 +301,8 @@ static const struct {
     const char *name;
     void (*answer)(void);
 } calls[] = {
+    {"places", places},
+    {"record_bytes", record_bytes},
     {"make", make},
     {"turn_back", turn_back},
     {"level", level},

@@ -4,10 +4,10 @@
 //!
 //! A call is its kind, the numbers it takes, and its buffers, each its length and then its content. The kinds are
 //! numbered through: those of tables from 1 on, of records from 4 on, of columns from 8 on; 13 opens a record and asks
-//! it, 14 asks for sizes. The answer is the number of the refusal, 0 if the call is taken, its place, the fields of the answer, each
-//! 0 on a refusal, and the whole content of each buffer that the call writes. In a buffer `7*5` stands for 7 five
-//! times; a number that comes once stands alone. Each call, each answer and each buffer begins a line; a line has at
-//! most eight numbers, repeated ones counted once, one space apart. No number has more than thirteen digits.
+//! it, 14 asks for sizes. The answer is the number of the refusal, 0 if the call is taken, its place, the fields of the
+//! answer, each 0 on a refusal, and the whole content of each buffer that the call writes. In a buffer `7*5` stands for
+//! 7 five times; a number that comes once stands alone. Each call, each answer and each buffer begins a line; a line
+//! has at most eight numbers, repeated ones counted once, one space apart. No number has more than thirteen digits.
 
 use std::collections::BTreeMap;
 use std::fmt::Display;

@@ -1,5 +1,5 @@
--- A table is lent whole exactly if checks 1 and 3 pass for it, and so is one in as many places as are told to be needed;
--- what these two checks say, and of a call that begins with them. Assumes nothing.
+-- A table is lent whole exactly if checks 1 and 3 pass for it, and so is one in as many places as are told to be
+-- needed; what these two checks say, and of a call that begins with them. Assumes nothing.
 use Rattle.kit.proofs.{_≡_, _∙_, true, false, List, [], _∷_, ℕ, _/_, _≤_, ℤ, length}
 use Rattle.words.specs.declared.{Refusal.Refusal, Refusal.the-variants.BadHours, Refusal.the-variants.ShortBuffer}
 use Rattle.om3.specs.Document.{badHours, P, Table, lent, Check, passes, refuses, andThen, inOrder, checkHours}

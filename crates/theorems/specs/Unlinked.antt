@@ -1,7 +1,7 @@
 -- Demand 1 for what is refused and is no call of the boundary: asking a record of its bytes alone, as a view does, and
 -- the printer. What each answers, by its contract a definition of om3, is a refusal exactly by the first cause of its
--- order. What a check asks, and of which number it is, is in om3/specs: Refusals, RecordCalls and Printed. [refusals 19,
--- 20] Assumes nothing.
+-- order. What a check asks, and of which number it is, is in om3/specs: Refusals, RecordCalls and Printed. [refusals
+-- 19, 20] Assumes nothing.
 use mathlib.Core.{Path._≡_, Logic._↔_}
 use mathlib.Core.List.{List, [], _∷_}
 use Prim.Native.Nat.{ℕ}

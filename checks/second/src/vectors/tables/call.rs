@@ -1,8 +1,8 @@
 //! A call on a table as text, and its answer.
 //!
 //! `1 n readings coefficients codes` is making, `2 n coefficients codes hours` is turning back, `3 n j coefficients` is
-//! one level, whose answer is the first place of the stretch and its length. `14 n` asks for the places of a table and for
-//! the bytes of its record; the answer is these two numbers.
+//! one level, whose answer is the first place of the stretch and its length. `14 n` asks for the places of a table and
+//! for the bytes of its record; the answer is these two numbers.
 
 use crate::hours::places;
 use crate::level::level;
