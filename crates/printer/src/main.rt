@@ -2,36 +2,81 @@
 // prints its columns to standard output, or one line that says why there are none.
 //
 // What is read and what is printed is stated and proved in `parsing` and `printing`; no contract can say what the
-// system reads and writes. Input is read in pieces of 65,536 bytes at most, as they come; the first read that brings
-// none, or fails, is its end.
+// system reads and writes. Input is read in pieces of 65,536 bytes at most, as they come, until a read brings none.
+// Where the system cannot read or write, one line on standard error says so; input that was not read to its end is not
+// drawn.
 use parsing::Text;
 
-// Nobody has so many pieces to read: a loop has to end.
-const MOST_READS: u64 = u64::MAX;
+// Nobody has so many pieces to read or to write: a loop has to end.
+const MOST_TURNS: u64 = u64::MAX;
 
-// Reads all of standard input.
-fn read_text(line: &mut [u8; parsing::KEPT], hours: &mut [i32; words::LARGEST_HOURS]) -> Text {
+// What came of standard input: all of it, or not all.
+enum Input {
+    Whole(Text),
+    Cut,
+}
+
+// Whether the read or write that just failed is to be tried again: a signal interrupted it, or its stream is not ready
+// yet, and others run first.
+fn again() -> bool {
+    let why = os::errno();
+    if why == libc::EAGAIN {
+        libc::sched_yield();
+        return true;
+    }
+    why == libc::EINTR
+}
+
+// Reads all of standard input. A read that is tried again has brought no byte.
+fn read_text(line: &mut [u8; parsing::KEPT], hours: &mut [i32; words::LARGEST_HOURS]) -> Input {
     let mut piece = io::large_buffer();
     let mut text = parsing::begin();
-    let mut left = MOST_READS;
+    let mut left = MOST_TURNS;
     while left > 0 {
         let got = libc::read(libc::STDIN_FILENO, &mut piece);
-        let n = io::count(got, &piece);
-        if n == 0 {
-            return text;
+        if got == 0 {
+            return Input::Whole(text);
         }
+        if got < 0 {
+            if !again() {
+                os::fail(b"printer: cannot read standard input");
+                return Input::Cut;
+            }
+        }
+        let n = io::count(got, &piece);
         text = parsing::read(text, &piece[..n], line, hours);
         left -= 1;
     }
-    text
+    Input::Cut
+}
+
+// Writes all of this to standard output, as far as it can be written.
+fn write_text(out: &[u8]) {
+    let mut done = 0;
+    let mut left = MOST_TURNS;
+    while done < out.len() {
+        if left == 0 {
+            return;
+        }
+        let put = libc::write(libc::STDOUT_FILENO, &out[done..]);
+        if put < 0 {
+            if !again() {
+                os::fail(b"printer: cannot write standard output");
+                return;
+            }
+        }
+        done += io::count(put, &out[done..]);
+        left -= 1;
+    }
 }
 
 fn main() {
     let mut line = [0u8; parsing::KEPT];
     let mut hours = [0i32; words::LARGEST_HOURS];
     let mut out = [0u8; printing::ROOM];
-    let text = read_text(&mut line, &mut hours);
-    let closed = parsing::close(text, &line, &mut hours);
-    let size = printing::print(closed, &hours, &mut out);
-    io::write_all(libc::STDOUT_FILENO, &out[..size]);
+    if let Input::Whole(text) = read_text(&mut line, &mut hours) {
+        let closed = parsing::close(text, &line, &mut hours);
+        let size = printing::print(closed, &hours, &mut out);
+        write_text(&out[..size]);
+    }
 }

@@ -9,11 +9,9 @@ use Rattle.printer.proofs.main.Tie as tie
 fits : (c : tie.After-print) → c .print .result ≤ length (c .print .last .1 .1 .0)
 fits c = puts-within room _ _ _ _ (c .print .ensures) (omega (arith, length-replicate {0} {A = ℕ} room 0))
 
-array-share-prefix-out : tie.Need-array-share-prefix-out
-array-share-prefix-out c = fits c
-
 pub main-spec : {M : Type 1} → statement M
 main-spec =
     tie.close
-    (tie.spec (λ c κs. search needs) (λ c κs. search needs) (λ c κs. search needs) array-share-prefix-out
-    (λ c. sym (length-take-le _ _ (fits (c .before)))) (λ c κs. search needs) (λ c. search needs))
+    (tie.spec (λ c κs. search needs) (λ c. search needs) (λ c κs. search needs) (λ c κs. search needs) (λ c. fits c)
+    (λ c. sym (length-take-le _ _ (fits (c .before)))) (λ c κs. search needs) (λ c. search needs) (λ c. search needs)
+    (λ c. search needs))
