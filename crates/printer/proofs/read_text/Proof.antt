@@ -4,7 +4,7 @@ use Rattle.printer.proofs.read_text.Statement.{statement}
 use Rattle.printer.proofs.read_text.Tie as tie
 
 abbrev Inv-loop : tie.InvT-loop
-Inv-loop line₀ hours₀ piece₀ text₀ left₀ failed line hours piece text left = 65536 ≡ length piece
+Inv-loop line₀ hours₀ piece₀ text₀ left₀ failed line hours piece text left = 4096 ≡ length piece
 
 abbrev μ-loop : tie.MeasureT-loop
 μ-loop line₀ hours₀ piece₀ text₀ left₀ failed line hours piece text left = left
