@@ -5,6 +5,7 @@
 // system reads and writes. Input is read in pieces of 4,096 bytes at most, as they come, until a read brings none, and
 // output is written piece by piece. Where the system cannot read or write, one line on standard error says so; input
 // that was not read to its end is not drawn.
+use libc::types::timespec;
 use parsing::Text;
 use printing::Drawing;
 
@@ -17,12 +18,25 @@ enum Input {
     Cut,
 }
 
-// Whether the read or write that just failed is to be tried again: a signal interrupted it, or its stream is not ready
-// yet, and others run first.
+// Waits a moment: a thousand nanoseconds, or how few the system can.
+fn pause() {
+    let asked = timespec {
+        tv_sec: 0,
+        tv_nsec: 1000,
+    };
+    let mut left = timespec {
+        tv_sec: 0,
+        tv_nsec: 0,
+    };
+    libc::nanosleep(&asked, &mut left);
+}
+
+// Whether the read or write that just failed is to be tried again: a signal interrupted it, or its stream was not ready
+// and has had a moment.
 fn again() -> bool {
     let why = os::errno();
     if why == libc::EAGAIN {
-        libc::sched_yield();
+        pause();
         return true;
     }
     why == libc::EINTR
