@@ -9,6 +9,6 @@ pub mod Pieces
 pub mod Longer
 pub mod Held
 pub mod InPieces
-pub mod DrawnWhole
 pub mod Whole
+pub mod DrawnWhole
 pub mod Clauses

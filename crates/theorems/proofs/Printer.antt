@@ -5,8 +5,8 @@ use Rattle.om3.specs.Document.{Table, lent, filled, printed}
 use Rattle.om3.proofs.Filled.{filled-first}
 use Rattle.parsing.specs.Parsing.{Progress, progress, begun, readOn, closed}
 use Rattle.printing.specs.declared.Drawing.{Drawing}
-use Rattle.printing.specs.Printing.{piece, printedAfter}
-use Rattle.printing.proofs.Whole.{hours-in-pieces, printed-in-pieces}
+use Rattle.printing.specs.Printing.{piece}
+use Rattle.printing.proofs.Whole.{printedAfter, hours-in-pieces, printed-in-pieces}
 use Rattle.printing.proofs.{InPieces.rest, InPieces.Few, InPieces.piece-then, InPieces.rest-none}
 use Rattle.printing.proofs.DrawnWhole.{decided-whole}
 use Rattle.theorems.specs.Printer.{ReadAll, Written, WrittenFrom, Prints}
