@@ -7,6 +7,7 @@
 // What is read and printed is stated and proved where it stands. As in `vector_lines`, which reads the numbers, the
 // contracts here say no more than safety needs.
 use parsing::Text;
+use printing::Drawing;
 ghost use Prim.Native.Nat.{_≤_, _<_};
 
 // The lesser of two numbers.
@@ -47,15 +48,31 @@ fn read_pieces(
     read
 }
 
+// Prints piece after piece, up to the last column that there can be.
+fn show_pieces(
+    drawing: Drawing,
+    coefficients: &[i32; words::LARGEST_HOURS],
+    codes: &[u8; words::LARGEST_HOURS / 2],
+) {
+    let mut out = [0u8; printing::ROOM];
+    let mut from = 0;
+    while from < words::MOST_COLUMNS {
+        let size = printing::print(drawing, coefficients, codes, from, &mut out);
+        io::write_all(libc::STDOUT_FILENO, &out[..size]);
+        from += printing::COLUMNS_AT_ONCE;
+    }
+}
+
 // Prints what is printed for a text.
 fn show(text: &[u8], size: usize) {
     let mut line = [0u8; parsing::KEPT];
     let mut hours = [0i32; words::LARGEST_HOURS];
-    let mut out = [0u8; printing::ROOM];
+    let mut coefficients = [0i32; words::LARGEST_HOURS];
+    let mut codes = [0u8; words::LARGEST_HOURS / 2];
     let read = read_pieces(text, size, &mut line, &mut hours);
     let closed = parsing::close(read, &line, &mut hours);
-    let n = printing::print(closed, &hours, &mut out);
-    io::write_all(libc::STDOUT_FILENO, &out[..n]);
+    let drawing = printing::decide(closed, &hours, &mut coefficients, &mut codes);
+    show_pieces(drawing, &coefficients, &codes);
     vector_lines::print_end();
 }
 

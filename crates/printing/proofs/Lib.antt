@@ -3,8 +3,12 @@ pub mod Putting
 pub mod Digits
 pub mod Numbers
 pub mod Lines
-pub mod Drawing
-pub mod Choosing
+pub mod ColumnLines
+pub mod Deciding
+pub mod Pieces
+pub mod Longer
 pub mod Held
+pub mod InPieces
 pub mod Whole
+pub mod DrawnWhole
 pub mod Clauses

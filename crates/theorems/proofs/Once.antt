@@ -60,5 +60,6 @@ each-call =
       begin = parsing.begin-call;
       read = parsing.read-call;
       close = parsing.close-call;
+      decide = printing.decide-call;
       print = printing.print-call;
     }

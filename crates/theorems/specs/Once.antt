@@ -62,8 +62,9 @@ pub record EachCall : Type 2 where
   pub finished-column : columns.FinishedCall
   pub join : answers.JoinCall
   pub day-change : days.DayChangeCall
-  -- The printer: reading a text piece by piece, and printing.
+  -- The printer: reading a text piece by piece, deciding what is printed, and printing it piece by piece.
   pub begin : parsing.BeginCall
   pub read : parsing.ReadCall
   pub close : parsing.CloseCall
+  pub decide : printing.DecideCall
   pub print : printing.PrintCall

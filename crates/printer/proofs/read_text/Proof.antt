@@ -4,15 +4,15 @@ use Rattle.printer.proofs.read_text.Statement.{statement}
 use Rattle.printer.proofs.read_text.Tie as tie
 
 abbrev Inv-loop : tie.InvT-loop
-Inv-loop line₀ hours₀ piece₀ text₀ left₀ line hours piece text left = 65536 ≡ length piece
+Inv-loop line₀ hours₀ piece₀ text₀ left₀ failed line hours piece text left = 4096 ≡ length piece
 
 abbrev μ-loop : tie.MeasureT-loop
-μ-loop line₀ hours₀ piece₀ text₀ left₀ line hours piece text left = left
+μ-loop line₀ hours₀ piece₀ text₀ left₀ failed line hours piece text left = left
 
 pub read-text-spec : {M : Type 1} → statement M
 read-text-spec =
     tie.close
     (tie.spec Inv-loop μ-loop (λ c κs. search needs) (λ c κs. search needs) (λ c. search needs) (λ c. search needs)
-    (λ c κs. search needs) (λ c. search needs) (λ c κs. search needs) (λ c. search needs) (λ c. search needs)
-    (λ c. search needs) (λ c κs. search needs) (λ c. search needs) (λ c. search needs) (λ c. search needs)
-    (λ c. search needs))
+    (λ c κs. search needs) (λ c. search needs) (λ c κs. search needs) (λ c. search needs) (λ c κs. search needs)
+    (λ c. search needs) (λ c. search needs) (λ c κs. search needs) (λ c. search needs) (λ c. search needs)
+    (λ c κs. search needs) (λ c. search needs) (λ c. search needs) (λ c. search needs) (λ c. search needs))
