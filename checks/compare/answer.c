@@ -10,7 +10,7 @@
 #include "sagivelume.h"
 
 /* A buffer holds at most so many numbers, and a line at most so many characters of each. */
-enum { MOST_NUMBERS = 1 << 17, MOST_DIGITS = 12, BUFFERS = 3 };
+enum { MOST_NUMBERS = 1 << 20, MOST_DIGITS = 12, BUFFERS = 3 };
 
 struct numbers {
     size_t length;

@@ -18,7 +18,7 @@ fn assert_differs(program: &[&str], words: &str) {
 
 #[test]
 fn a_wrong_program_is_a_difference() {
-    assert_differs(&["cat"], "difference; the call is a line for `second answer`:\nmake ");
+    assert_differs(&["cat"], "difference; the call is a line for `second answer`:\nplaces ");
     assert_differs(&["true"], "the program gives:\nnothing\n");
     assert_differs(&["./there is no such program"], "the program cannot be run");
 }
