@@ -51,11 +51,22 @@ static void do_nothing(void)
 }
 
 /* What the calls are given, and the refusal that they answer. */
-static size_t n, j, a, b, w, column, depth, day, places, place, refused;
-static int32_t readings[HOURS], coefficients[HOURS], hours[HOURS], read_coefficients[HOURS];
-static uint8_t codes[HOURS / 2], read_codes[HOURS / 2], record[RECORD + 1];
-static size_t readings_length, coefficients_length, codes_length, record_length;
+static size_t n, j, a, b, w, column, depth, day, table_places, place, refused;
+static int32_t readings[HOURS], coefficients[HOURS], hours[HOURS], read_coefficients[HOURS], start;
+static uint16_t counts[HOURS];
+static uint8_t codes[HOURS / 2], read_codes[HOURS / 2], record[RECORD + 1], flags[HOURS];
+static size_t readings_length, coefficients_length, codes_length, record_length, log_length;
 static struct sagivelume_told_answer left, right;
+
+static void places(void)
+{
+    refused = sagivelume_places(n) == 0;
+}
+
+static void record_bytes(void)
+{
+    refused = sagivelume_record_bytes(n) == 0;
+}
 
 static void make(void)
 {
@@ -69,14 +80,9 @@ static void turn_back(void)
                   .number;
 }
 
-static void places(void)
+static void rebuild(void)
 {
-    refused = sagivelume_places(n) == 0;
-}
-
-static void record_bytes(void)
-{
-    refused = sagivelume_record_bytes(n) == 0;
+    refused = sagivelume_rebuild(n, counts, log_length, flags, log_length, start, hours, readings_length).number;
 }
 
 static void level(void)
@@ -104,7 +110,7 @@ static void open_record(void)
 
 static void ask(void)
 {
-    refused = sagivelume_ask(record, record_length, places, place).number;
+    refused = sagivelume_ask(record, record_length, table_places, place).number;
 }
 
 static void edges(void)
@@ -143,6 +149,7 @@ static struct seen {
     {"record_bytes", record_bytes, 0, 0, 0},
     {"make", make, 0, 0, 0},
     {"turn_back", turn_back, 0, 0, 0},
+    {"rebuild", rebuild, 0, 0, 0},
     {"level", level, 0, 0, 0},
     {"write_record", write_record, 0, 0, 0},
     {"read_record", read_record, 0, 0, 0},
@@ -154,7 +161,24 @@ static struct seen {
     {"join", join, 0, 0, 0},
     {"day_change", day_change, 0, 0, 0},
 };
-enum { MAKE, TURN_BACK, LEVEL, WRITE, READ, OPEN, ASK, EDGES, STOPPED, FINISHED, JOIN, DAY_CHANGE, CALLS };
+enum {
+    PLACES,
+    RECORD_BYTES,
+    MAKE,
+    TURN_BACK,
+    REBUILD,
+    LEVEL,
+    WRITE,
+    READ,
+    OPEN,
+    ASK,
+    EDGES,
+    STOPPED,
+    FINISHED,
+    JOIN,
+    DAY_CHANGE,
+    CALLS
+};
 
 static void run(int call)
 {
@@ -184,7 +208,8 @@ static void fit(void)
     coefficients_length = p;
     codes_length = p / 2;
     record_length = 7 + 3 * p + p / 2;
-    places = p;
+    log_length = readings_length;
+    table_places = p;
 }
 
 /* All calls on a whole table, each buffer too short once. */
@@ -200,7 +225,7 @@ static void run_table(void)
             run(calls[call]);
         ++*lengths[length];
     }
-    for (place = 0; place <= places; place += 1 + places / 16)
+    for (place = 0; place <= table_places; place += 1 + table_places / 16)
         run(ASK);
     for (j = 0; j < 16; j++)
         run(LEVEL);
@@ -247,10 +272,34 @@ static void run_damaged(void)
     }
 }
 
-/* A series of n hours, once in so many a gap; its table, sound and damaged; and a reading that is none. */
+/* The log of an old scale, once in so many an hour that was not recorded; with a start from which weights may leave the
+ * range of readings; with another start, with a bad flag, and too short. */
+static void run_log(uint64_t gaps)
+{
+    start = -1;
+    for (size_t hour = 0; hour < log_length; hour++) {
+        counts[hour] = (uint16_t)(draw() % 32768);
+        flags[hour] = draw() % gaps != 0;
+        if (flags[hour] && start == -1)
+            start = counts[hour];
+    }
+    run(REBUILD);
+    start += 15 * 65536;
+    run(REBUILD);
+    start++;
+    run(REBUILD);
+    flags[log_length - 1] = 2;
+    run(REBUILD);
+    log_length--;
+    run(REBUILD);
+    log_length++;
+}
+
+/* A series of n hours, once in so many a gap; its table, sound and damaged; a reading that is none; and a log. */
 static void run_series(uint64_t gaps)
 {
     fit();
+    run(PLACES), run(RECORD_BYTES);
     for (size_t hour = 0; hour < readings_length; hour++)
         readings[hour] = draw() % gaps == 0 ? SAGIVELUME_GAP : (int32_t)(draw() % 2000001) - SAGIVELUME_LARGEST_READING;
     run(MAKE);
@@ -259,6 +308,7 @@ static void run_series(uint64_t gaps)
     run_damaged();
     readings[draw() % readings_length] = SAGIVELUME_GAP + 1;
     run(MAKE);
+    run_log(gaps);
 }
 
 /* Answers with and without a reading. */
@@ -292,7 +342,7 @@ int main(void)
     }
     n = HOURS + 1;
     fit();
-    run(MAKE);
+    run(PLACES), run(RECORD_BYTES), run(MAKE), run(REBUILD);
     run_table();
     run_joins();
     puts("| call | runs | refused or empty | stack, bytes |\n|---|---:|---:|---:|");

@@ -17,6 +17,11 @@ struct numbers {
     int32_t held[MOST_NUMBERS];
 };
 
+struct counts {
+    size_t length;
+    uint16_t held[MOST_NUMBERS];
+};
+
 struct bytes {
     size_t length;
     uint8_t held[MOST_NUMBERS];
@@ -29,13 +34,20 @@ static char *rest;
 
 /* The lent buffers, whatever a call has of them. */
 static struct numbers readings, coefficients, hours;
-static struct bytes codes, record;
+static struct counts counts;
+static struct bytes codes, flags, record;
+
+/* A buffer whose numbers are still to become those of a narrower one. */
+static struct numbers taken;
 
 static void fail(const char *why)
 {
     fprintf(stderr, "answer: %s\n", why);
     exit(EXIT_FAILURE);
 }
+
+/* A buffer as it is lent, its pointer and its length: null if it is empty, as an empty `std::vector` hands it over. */
+#define LENT(buffer) (buffer).length ? (buffer).held : NULL, (buffer).length
 
 /* Takes the bar before a buffer. */
 static void take_bar(void)
@@ -74,9 +86,16 @@ static void take_numbers(struct numbers *into)
     }
 }
 
+static void take_counts(struct counts *into)
+{
+    take_numbers(&taken);
+    into->length = taken.length;
+    for (size_t place = 0; place < taken.length; place++)
+        into->held[place] = (uint16_t)taken.held[place];
+}
+
 static void take_bytes(struct bytes *into)
 {
-    static struct numbers taken;
     take_numbers(&taken);
     into->length = taken.length;
     for (size_t place = 0; place < taken.length; place++)
@@ -158,10 +177,9 @@ static void make(void)
 {
     size_t n = take_size();
     take_numbers(&readings), take_numbers(&coefficients), take_bytes(&codes);
-    struct sagivelume_told told = sagivelume_make(n, readings.held, readings.length, coefficients.held,
-                                                  coefficients.length, codes.held, codes.length);
+    struct sagivelume_told told = sagivelume_make(n, LENT(readings), LENT(coefficients), LENT(codes));
     tell(told.number, told.place);
-    show_numbers(coefficients.held, coefficients.length);
+    show_numbers(LENT(coefficients));
     show_bytes(&codes);
 }
 
@@ -169,17 +187,26 @@ static void turn_back(void)
 {
     size_t n = take_size();
     take_numbers(&coefficients), take_bytes(&codes), take_numbers(&hours);
-    struct sagivelume_told told = sagivelume_turn_back(n, coefficients.held, coefficients.length, codes.held,
-                                                       codes.length, hours.held, hours.length);
+    struct sagivelume_told told = sagivelume_turn_back(n, LENT(coefficients), LENT(codes), LENT(hours));
     tell(told.number, told.place);
-    show_numbers(hours.held, hours.length);
+    show_numbers(LENT(hours));
+}
+
+static void rebuild(void)
+{
+    size_t n = take_size();
+    int32_t start = take_grams();
+    take_counts(&counts), take_bytes(&flags), take_numbers(&hours);
+    struct sagivelume_told told = sagivelume_rebuild(n, LENT(counts), LENT(flags), start, LENT(hours));
+    tell(told.number, told.place);
+    show_numbers(LENT(hours));
 }
 
 static void level(void)
 {
     size_t n = take_size(), j = take_size();
     take_numbers(&coefficients);
-    struct sagivelume_stretch stretch = sagivelume_level(n, j, coefficients.held, coefficients.length);
+    struct sagivelume_stretch stretch = sagivelume_level(n, j, LENT(coefficients));
     printf("stretch %zu %zu", stretch.start, stretch.length);
     if (stretch.start > coefficients.length || stretch.length > coefficients.length - stretch.start)
         fail("a stretch is not within the coefficients");
@@ -190,8 +217,7 @@ static void write_record(void)
 {
     size_t n = take_size();
     take_numbers(&coefficients), take_bytes(&codes), take_bytes(&record);
-    struct sagivelume_told_bytes told = sagivelume_write_record(
-        n, coefficients.held, coefficients.length, codes.held, codes.length, record.held, record.length);
+    struct sagivelume_told_bytes told = sagivelume_write_record(n, LENT(coefficients), LENT(codes), LENT(record));
     if (tell(told.number, told.place))
         printf(" %zu", told.bytes);
     show_bytes(&record);
@@ -200,18 +226,17 @@ static void write_record(void)
 static void read_record(void)
 {
     take_bytes(&record), take_numbers(&coefficients), take_bytes(&codes);
-    struct sagivelume_told_hours told = sagivelume_read_record(
-        record.held, record.length, coefficients.held, coefficients.length, codes.held, codes.length);
+    struct sagivelume_told_hours told = sagivelume_read_record(LENT(record), LENT(coefficients), LENT(codes));
     if (tell(told.number, told.place))
         printf(" %zu", told.hours);
-    show_numbers(coefficients.held, coefficients.length);
+    show_numbers(LENT(coefficients));
     show_bytes(&codes);
 }
 
 static void open_record(void)
 {
     take_bytes(&record);
-    struct sagivelume_told_record told = sagivelume_open_record(record.held, record.length);
+    struct sagivelume_told_record told = sagivelume_open_record(LENT(record));
     if (tell(told.number, told.place))
         printf(" %zu %zu", told.hours, told.places);
 }
@@ -219,7 +244,7 @@ static void open_record(void)
 /* Asks the record for the coefficient at a place, of so many places. */
 static void ask_of(size_t places, size_t place)
 {
-    struct sagivelume_told_coefficient told = sagivelume_ask(record.held, record.length, places, place);
+    struct sagivelume_told_coefficient told = sagivelume_ask(LENT(record), places, place);
     if (tell(told.number, told.place))
         printf(" %" PRId32, told.coefficient);
 }
@@ -228,7 +253,7 @@ static void ask(void)
 {
     size_t place = take_size();
     take_bytes(&record);
-    struct sagivelume_told_record opened = sagivelume_open_record(record.held, record.length);
+    struct sagivelume_told_record opened = sagivelume_open_record(LENT(record));
     if (opened.number)
         tell(opened.number, opened.place);
     else
@@ -255,8 +280,7 @@ static void stopped(void)
     size_t n = take_size(), a = take_size(), b = take_size(), w = take_size(), column = take_size();
     size_t depth = take_size();
     take_numbers(&coefficients), take_bytes(&codes);
-    struct sagivelume_told_ranges told = sagivelume_stopped(
-        n, coefficients.held, coefficients.length, codes.held, codes.length, a, b, w, column, depth);
+    struct sagivelume_told_ranges told = sagivelume_stopped(n, LENT(coefficients), LENT(codes), a, b, w, column, depth);
     if (!tell(told.number, told.place))
         return;
     show_range(told.outer_low, told.outer_high);
@@ -268,8 +292,7 @@ static void finished(void)
 {
     size_t n = take_size(), a = take_size(), b = take_size(), w = take_size(), column = take_size();
     take_numbers(&coefficients), take_bytes(&codes);
-    struct sagivelume_told_finished told =
-        sagivelume_finished(n, coefficients.held, coefficients.length, codes.held, codes.length, a, b, w, column);
+    struct sagivelume_told_finished told = sagivelume_finished(n, LENT(coefficients), LENT(codes), a, b, w, column);
     if (!tell(told.number, told.place))
         return;
     show_answer(told.answer);
@@ -287,8 +310,7 @@ static void day_change(void)
 {
     size_t n = take_size(), day = take_size();
     take_numbers(&coefficients), take_bytes(&codes);
-    struct sagivelume_told_change told =
-        sagivelume_day_change(n, coefficients.held, coefficients.length, codes.held, codes.length, day);
+    struct sagivelume_told_change told = sagivelume_day_change(n, LENT(coefficients), LENT(codes), day);
     if (!tell(told.number, told.place))
         return;
     if (told.found)
@@ -305,6 +327,7 @@ static const struct {
     {"record_bytes", record_bytes},
     {"make", make},
     {"turn_back", turn_back},
+    {"rebuild", rebuild},
     {"level", level},
     {"write_record", write_record},
     {"read_record", read_record},

@@ -44,8 +44,8 @@
 #define SAGIVELUME_MOST_RECORD_BYTES 57351
 
 /* The refusals: word, number and cause of each, for a macro of one's own, as in c/draw.c. The place told with a refusal
- * is the first such hour for 2; the number of the first such node for 4, 0 for coefficients 0 and 1; the line for 12,
- * which is the printer's and no call's; and 0 for all others. */
+ * is the first such hour for 2 and 14; the number of the first such node for 4, 0 for coefficients 0 and 1; the line
+ * for 12, which is the printer's and no call's; and 0 for all others. */
 #define SAGIVELUME_REFUSALS(REFUSAL) \
     REFUSAL(SAGIVELUME_BAD_HOURS, 1, "n is 0 or over 16,384") \
     REFUSAL(SAGIVELUME_BAD_READING, 2, "an hour holds neither a reading nor a gap") \
@@ -59,7 +59,9 @@
     REFUSAL(SAGIVELUME_BAD_LENGTH, 10, "the record's length field is not that of its n") \
     REFUSAL(SAGIVELUME_BYTES_AFTER, 11, "bytes follow the record") \
     REFUSAL(SAGIVELUME_BAD_LINE, 12, "a line of the text is bad") \
-    REFUSAL(SAGIVELUME_BAD_PLACE, 13, "the place asked for is not below the number of places")
+    REFUSAL(SAGIVELUME_BAD_PLACE, 13, "the place asked for is not below the number of places") \
+    REFUSAL(SAGIVELUME_BAD_FLAG, 14, "a flag is neither 0 nor 1") \
+    REFUSAL(SAGIVELUME_BAD_START, 15, "the start differs from the first recorded count modulo 65,536")
 
 #define SAGIVELUME_NUMBERED(word, number, cause) word = number,
 enum sagivelume_refusal { SAGIVELUME_REFUSALS(SAGIVELUME_NUMBERED) SAGIVELUME_TAKEN = 0 };
@@ -183,6 +185,19 @@ struct sagivelume_told sagivelume_turn_back(
     size_t n,
     const int32_t *coefficients, size_t coefficients_length,
     const uint8_t *codes, size_t codes_length,
+    int32_t *hours, size_t hours_length);
+
+/* Rebuilds the series of an old scale's log. In each hour it has a count, the weight modulo 65,536, and a flag, 1 if
+ * the hour was recorded and 0 if not; the count of an hour that was not is not looked at. `start` is the weight at the
+ * first recorded hour, below zero too; if there is none, it is not looked at. From a recorded hour to the next the
+ * weight changes by the later count minus the earlier, taken modulo 65,536 as -32,768 to 32,767; every other hour
+ * becomes a gap. Reads n counts and n flags, writes n hours. Refusals 1, 3, 14, 15, 2: here 2 is an hour whose rebuilt
+ * weight, or the start itself, is no reading. */
+struct sagivelume_told sagivelume_rebuild(
+    size_t n,
+    const uint16_t *counts, size_t counts_length,
+    const uint8_t *flags, size_t flags_length,
+    int32_t start,
     int32_t *hours, size_t hours_length);
 
 /* Tells where the details of level j stand, j from 0 to l - 2: those of nodes 2^j to 2^(j+1) - 1, low detail and high

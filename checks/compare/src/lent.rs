@@ -18,6 +18,12 @@ impl Held for i32 {
     }
 }
 
+impl Held for u16 {
+    fn guard(place: usize) -> u16 {
+        0x5a00 + (place % 0x100) as u16
+    }
+}
+
 impl Held for u8 {
     fn guard(place: usize) -> u8 {
         0xa0 + (place % 64) as u8

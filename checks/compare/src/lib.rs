@@ -16,6 +16,7 @@ mod lent;
 mod lent_tables;
 mod line;
 mod numbers;
+mod old_logs;
 mod records;
 mod series;
 mod tables;
@@ -23,4 +24,5 @@ mod tables;
 use drawing::Topic;
 
 /// What notes are taken of while calls are drawn.
-pub const TOPICS: [&Topic; 4] = [&numbers::SORTS_OF_N, &series::FORMS, &tables::CHANGES, &drawn_records::CHANGES];
+pub const TOPICS: [&Topic; 5] =
+    [&numbers::SORTS_OF_N, &series::FORMS, &tables::CHANGES, &drawn_records::CHANGES, &old_logs::FORMS];

@@ -12,7 +12,7 @@ impl Line {
     }
 
     /// A number of the head.
-    pub fn number(mut self, number: usize) -> Line {
+    pub fn number(mut self, number: impl Display) -> Line {
         self.push(number);
         self
     }
@@ -55,6 +55,10 @@ mod tests {
         let line = Line::call("make").number(2).buffer(&[7, 7]).buffer(&[0, 0, 5]).buffer::<u8>(&[]).end();
         assert_eq!(line, "make 2 | 7*2 | 0*2 5 |");
         assert_eq!(second::answer::answer(line.as_bytes()), "refused 3 at 0 | 0 0 5 |");
+
+        let line = Line::call("rebuild").number(1).number(-1).buffer(&[65_535_u16]).buffer(&[1_u8]).buffer(&[0]).end();
+        assert_eq!(line, "rebuild 1 -1 | 65535 | 1 | 0");
+        assert_eq!(second::answer::answer(line.as_bytes()), "taken | -1");
 
         let fields = ["0", "7", "0", "7", "7", "7"].map(String::from);
         let line = Line::call("join").fields(&fields).fields(&["-"; 6].map(String::from)).end();

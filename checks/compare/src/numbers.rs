@@ -150,7 +150,7 @@ pub fn draw_held<T: Drawn>(random: &mut Drawing, length: usize) -> Vec<T> {
 
 /// What a drawn buffer holds.
 pub trait Drawn: Held {
-    /// Something that a table, a series or a record may hold, or anything.
+    /// Something that a table, a series, a record or a log may hold, or anything.
     fn draw(random: &mut Drawing) -> Self;
 }
 
@@ -161,6 +161,12 @@ impl Drawn for i32 {
             1 => random.draw() as i32,
             _ => random.between(-9, 9),
         }
+    }
+}
+
+impl Drawn for u16 {
+    fn draw(random: &mut Drawing) -> u16 {
+        random.draw() as u16
     }
 }
 

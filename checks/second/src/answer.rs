@@ -7,6 +7,7 @@ use crate::columns::{edges, stopped, Column};
 use crate::finished::{day_change, finished, join, Answer, Found, Reading};
 use crate::hours::{places, Hours, LowHigh};
 use crate::level::level;
+use crate::old_log::rebuild;
 use crate::printer::print;
 use crate::record::{ask, ask_view, open, read_record, record_bytes, write_record, Opened};
 use crate::refusal::Refusal;
@@ -29,8 +30,16 @@ fn called(line: &str) -> Option<String> {
     let mut parts = line.split('|');
     let mut head = fields(parts.next()?);
     let name = head.next()?;
-    let numbers: Vec<u64> = head.map(number).collect::<Option<_>>()?;
+    let words: Vec<&str> = head.collect();
     let buffers: Vec<&str> = parts.collect();
+
+    // The one call with a number in its head that may be negative.
+    if let ("rebuild", &[n, start], &[counts, flags, hours]) = (name, &words[..], &buffers[..]) {
+        let mut hours = buffer(hours)?;
+        let rebuilt = rebuild(number(n)?, &buffer(counts)?, &buffer(flags)?, number(start)?, &mut hours);
+        return Some(taken_or_refused(rebuilt.map(|()| vec![])) + &shown(&hours));
+    }
+    let numbers: Vec<u64> = words.into_iter().map(number).collect::<Option<_>>()?;
 
     let text = match (name, &numbers[..], &buffers[..]) {
         ("places", &[n], []) => taken_or_refused(Ok(vec![field(places(n))])),

@@ -1,6 +1,7 @@
-//! The second program: document 01's rules, read literally and carried out by brute force.
+//! The second program: the rules of document 01, and of document 02 as far as they are asked for, read literally and
+//! carried out by brute force.
 //!
-//! The modules stand in reading order. Each call of document 01 is one public function that takes any numbers and
+//! The modules stand in reading order. Each call of the documents is one public function that takes any numbers and
 //! buffers of any length and gives its answer or a [`Refusal`]. Every check of a call runs before its first write.
 
 pub mod refusal;
@@ -12,6 +13,8 @@ pub mod table;
 pub mod sound;
 
 pub mod level;
+
+pub mod old_log;
 
 pub mod record;
 
@@ -33,6 +36,7 @@ pub use columns::{edges, stopped, Column, Stopped};
 pub use finished::{day_change, finished, join, Answer, Finished, Found, Reading};
 pub use hours::{places, Hours, LowHigh, Node, Shape};
 pub use level::{level, Stretch};
+pub use old_log::rebuild;
 pub use printer::print;
 pub use record::{ask, ask_view, open, read_record, record_bytes, write_record, Opened};
 pub use refusal::Refusal;

@@ -1,13 +1,13 @@
-//! The refusals of document 01's list.
+//! The refusals: those of document 01's list, and 14 and 15 of document 02.
 
 use std::fmt;
 
 /// A refusal: its number in the list and its place.
 #[derive(Clone, Copy, Debug, PartialEq, Eq)]
 pub struct Refusal {
-    /// The number, 1 to 13.
+    /// The number, 1 to 15.
     pub number: u8,
-    /// The hour of 2, the node number of 4, the line of 12, and 0 for all others.
+    /// The hour of 2 and of 14, the node number of 4, the line of 12, and 0 for all others.
     pub place: u64,
 }
 
@@ -32,12 +32,14 @@ impl Refusal {
     pub const BYTES_AFTER: Refusal = Refusal::without_place(11);
     /// 13: the coefficient place is P or more.
     pub const PLACE: Refusal = Refusal::without_place(13);
+    /// 15: the start differs from the first recorded count modulo 65,536.
+    pub const START: Refusal = Refusal::without_place(15);
 
     const fn without_place(number: u8) -> Refusal {
         Refusal { number, place: 0 }
     }
 
-    /// 2: this hour holds neither a reading nor the gap mark.
+    /// 2: this hour holds neither a reading nor the gap mark, or would, if it were rebuilt.
     pub const fn hour(hour: u64) -> Refusal {
         Refusal { number: 2, place: hour }
     }
@@ -50,6 +52,11 @@ impl Refusal {
     /// 12: this line, counted from 1, is bad.
     pub const fn line(line: u64) -> Refusal {
         Refusal { number: 12, place: line }
+    }
+
+    /// 14: the flag of this hour is neither 0 nor 1.
+    pub const fn flag(hour: u64) -> Refusal {
+        Refusal { number: 14, place: hour }
     }
 }
 

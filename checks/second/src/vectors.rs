@@ -1,13 +1,13 @@
 //! The vectors: calls with chosen contents and this program's answers to them, in plain numbers that a small program
-//! can read. `crates/vectors` runs those of tables, of records and of columns. `crates/printer_vectors` runs the
-//! printer on inputs, which stand as they are.
+//! can read. `crates/vectors` runs those of tables, records, columns and logs of the old scales.
+//! `crates/printer_vectors` runs the printer on inputs, which stand as they are.
 //!
-//! A call is its kind, the numbers it takes, and its buffers, each its length and then its content. The kinds are
-//! numbered through: those of tables from 1 on, of records from 4 on, of columns from 8 on; 13 opens a record and asks
-//! it, 14 asks for sizes. The answer is the number of the refusal, 0 if the call is taken, its place, the fields of the
-//! answer, each 0 on a refusal, and the whole content of each buffer that the call writes. In a buffer `7*5` stands for
-//! 7 five times; a number that comes once stands alone. Each call, each answer and each buffer begins a line; a line
-//! has at most eight numbers, repeated ones counted once, one space apart. No number has more than thirteen digits.
+//! A call is its kind, the numbers it takes, and its buffers, each its length and then its content. The tens of a kind
+//! are its group: none for tables and logs of the old scales, one for records, two for columns. The answer is the
+//! number of the refusal, 0 if the call is taken, its place, the fields of the answer, each 0 on a refusal, and the
+//! whole content of each buffer that the call writes. In a buffer `7*5` stands for 7 five times; a number that comes
+//! once stands alone. Each call, each answer and each buffer begins a line; a line has at most eight numbers, repeated
+//! ones counted once, one space apart. No number has more than thirteen digits.
 
 use std::collections::BTreeMap;
 use std::fmt::Display;
@@ -21,6 +21,8 @@ pub mod tables;
 pub mod records;
 
 pub mod columns;
+
+pub mod old_logs;
 
 pub mod printer;
 
@@ -67,7 +69,8 @@ impl Written {
 
 /// The vectors of each program.
 pub fn written() -> [Written; 2] {
-    let calls = Written::of("vectors").with(tables::calls()).with(records::calls()).with(columns::calls());
+    let calls = Written::of("vectors").with(tables::calls()).with(records::calls());
+    let calls = calls.with(columns::calls()).with(old_logs::calls());
     [calls, Written::of("printer_vectors").with(printer::calls())]
 }
 

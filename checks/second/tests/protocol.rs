@@ -8,11 +8,12 @@ use second::answer::{answer, BAD_LINE, MOST_NUMBERS};
 
 const README: &str = include_str!("../README.md");
 
-const CALLS: [&str; 16] = [
+const CALLS: [&str; 17] = [
     "places",
     "record_bytes",
     "make",
     "turn_back",
+    "rebuild",
     "level",
     "write_record",
     "read_record",
@@ -154,6 +155,19 @@ fn lines_that_are_no_call() {
         "make 2*1 | 7 9 | 0 0 | 0",
         "make 18446744073709551616 | 7 9 | 0 0 | 0",
         "turn_back 2 | 7 9 | 0",
+        "rebuild 1 | 5 | 1 | 0",
+        "rebuild 1 5 5 | 5 | 1 | 0",
+        "rebuild -1 5 | 5 | 1 | 0",
+        "rebuild 1 - | 5 | 1 | 0",
+        "rebuild 1 x | 5 | 1 | 0",
+        "rebuild 1 2147483648 | 0 | 1 | 0",
+        "rebuild 1 -2147483649 | 65535 | 1 | 0",
+        "rebuild 1 5 | -1 | 1 | 0",
+        "rebuild 1 5 | 65536 | 1 | 0",
+        "rebuild 1 5 | 5 | 256 | 0",
+        "rebuild 1 5 | 5 | 1 | 2147483648",
+        "rebuild 1 5 | 5 | 1",
+        "rebuild 1 5 | 5 | 1 | 0 | 0",
         "level 7 | 1 2",
         "level 7 1",
         "write_record 2 | 5 5 | 0",

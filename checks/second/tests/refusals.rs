@@ -4,7 +4,8 @@ mod common;
 
 use common::{column, made, refusal, Made, SEVEN_HOURS};
 use second::hours::GAP;
-use second::{day_change, edges, finished, make, read_record, stopped, turn_back, write_record, Column, Refusal};
+use second::{day_change, edges, finished, make, read_record, rebuild, stopped, turn_back, write_record};
+use second::{Column, Refusal};
 
 const BAD_N: [u64; 5] = [0, 16_385, 1 << 32, (1 << 32) + 7, u64::MAX];
 const BAD_WINDOWS: [(u64, u64); 6] = [(3, 3), (4, 3), (0, 8), (7, 8), (0, u64::MAX), (u64::MAX, 0)];
@@ -120,6 +121,45 @@ fn turning_back() {
                 assert_eq!(given.err(), due(&causes), "{input}");
                 let after = if given.is_ok() { resized(&SEVEN_HOURS, room, 77) } else { vec![77; room] };
                 assert_eq!(hours, after, "{input}");
+            }
+        }
+    }
+}
+
+/// Seven hours of an old scale, of which 1 and 4 were not recorded. Their counts go with no weight here.
+const OLD_HOURS: [i32; 7] = [999_990, GAP, 999_980, 1_000_000, GAP, 967_232, 999_999];
+
+#[test]
+fn rebuilding() {
+    for [bad_n, short, bad_flag, bad_start, bad_weight] in combinations() {
+        let mut weights = OLD_HOURS;
+        if bad_weight {
+            // The weight after it can be a reading again.
+            (weights[2], weights[6]) = (1_000_001, 1_000_001);
+        }
+        let counts = weights.map(|weight| if weight == GAP { 999 } else { (weight % 65_536) as u16 });
+        let mut flags = weights.map(|weight| u8::from(weight != GAP));
+        if bad_flag {
+            (flags[4], flags[6]) = (2, 255);
+        }
+        for n in choices(bad_n, &BAD_N, 7) {
+            for start in choices(bad_start, &[0, 999_991, -999_990, i32::MIN, i32::MAX], 999_990) {
+                for [lent, lent_flags, room] in lengths([7, 7, 7], short) {
+                    let (counts, flags) = (resized(&counts, lent, 9), resized(&flags, lent_flags, 9));
+                    let mut hours = vec![77; room];
+                    let causes = [
+                        (bad_n, refusal(1, 0)),
+                        (short, refusal(3, 0)),
+                        (bad_flag, refusal(14, 4)),
+                        (bad_start, refusal(15, 0)),
+                        (bad_weight, refusal(2, 2)),
+                    ];
+                    let input = format!("n {n}, {counts:?}, {flags:?}, start {start}, room {room}");
+                    let given = rebuild(n, &counts, &flags, start, &mut hours);
+                    assert_eq!(given.err(), due(&causes), "{input}");
+                    let after = if given.is_ok() { resized(&OLD_HOURS, room, 77) } else { vec![77; room] };
+                    assert_eq!(hours, after, "{input}");
+                }
             }
         }
     }

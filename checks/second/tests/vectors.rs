@@ -2,8 +2,8 @@
 
 use std::collections::{BTreeMap, BTreeSet};
 
-use second::vectors::{columns, printer, records, tables, written, Vector};
-use second::{print, stopped, turn_back, Column, Shape};
+use second::vectors::{columns, old_logs, printer, records, tables, written, Vector};
+use second::{print, rebuild, stopped, turn_back, Column, Shape};
 
 /// The programs that read them have room for so many bytes each, and half of it stays for calls to come.
 const MOST_BYTES: usize = 2_097_152 / 2;
@@ -51,7 +51,7 @@ fn the_pages_count_the_vectors() {
 }
 
 /// Each call with the refusals that it has, and how many calls have each of its outcomes at least.
-const OUTCOMES: [(&str, &[u8], usize); 12] = [
+const OUTCOMES: [(&str, &[u8], usize); 13] = [
     ("make", &[1, 2, 3], 10),
     ("turn_back", &[1, 3, 4], 10),
     ("write_record", &[1, 3, 4], 8),
@@ -64,6 +64,7 @@ const OUTCOMES: [(&str, &[u8], usize); 12] = [
     ("finished", &[1, 3, 4, 5, 6], 5),
     ("join", &[], 5),
     ("day_change", &[1, 3, 4, 5], 5),
+    ("rebuild", &[1, 2, 3, 14, 15], 10),
 ];
 
 fn refuses_nothing(outcome: &str) -> bool {
@@ -93,9 +94,13 @@ fn every_outcome_of_every_call_is_there() {
     assert_eq!(others, ["level found", "level of length 0", "sizes of no series", "sizes told"]);
 }
 
-/// How many numbers a call of each kind takes, and then how many buffers; from kind 1 on.
-const TAKEN: [(usize, usize); 14] =
-    [(1, 3), (1, 3), (2, 1), (1, 3), (0, 3), (0, 1), (2, 1), (5, 0), (6, 2), (5, 2), (14, 0), (2, 2), (1, 1), (1, 0)];
+/// Each kind of call, how many numbers it takes, and then how many buffers.
+#[rustfmt::skip]
+const TAKEN: [(usize, usize, usize); 15] = [
+    (1, 1, 3), (2, 1, 3), (3, 2, 1), (4, 1, 0), (5, 2, 3),
+    (11, 1, 3), (12, 0, 3), (13, 0, 1), (14, 2, 1), (15, 1, 1),
+    (21, 5, 0), (22, 6, 2), (23, 5, 2), (24, 14, 0), (25, 2, 2),
+];
 
 /// The calls are taken apart by what is told of them alone: each buffer is as long as it says, and in it no number
 /// follows itself.
@@ -106,9 +111,10 @@ fn the_calls_can_be_taken_apart() {
     let mut number = || words.next().map(|word| word.split_once('*').unwrap_or((word, "1")));
     let mut calls = [0; TAKEN.len()];
     while let Some((kind, "1")) = number() {
-        let kind = kind.parse::<usize>().unwrap() - 1;
-        calls[kind] += 1;
-        let (numbers, buffers) = TAKEN[kind];
+        let kind = kind.parse::<usize>().unwrap();
+        let place = TAKEN.iter().position(|taken| taken.0 == kind).expect("a kind");
+        calls[place] += 1;
+        let (_, numbers, buffers) = TAKEN[place];
         assert!((0..numbers).all(|_| number().unwrap().1 == "1"));
         for _ in 0..buffers {
             let (mut left, mut before) = (number().unwrap().0.parse::<usize>().unwrap(), "");
@@ -135,6 +141,23 @@ fn every_length_is_made_and_turned_back() {
     for n in [1, 2, 3, 5, 7, 8, 9, 15, 16, 17, 63, 64, 65, 1_000, 16_383, 16_384] {
         assert!(made.contains(&n) && turned_back.contains(&n), "{n}");
     }
+}
+
+/// Short logs and the longest are rebuilt, with all hours recorded and with some; bad flags and weights out of range
+/// are told at the first and at the last hour of all.
+#[test]
+fn old_logs_of_every_sort_are_there() {
+    let (mut whole, mut partly, mut told) = (BTreeSet::new(), BTreeSet::new(), BTreeSet::new());
+    for old_logs::Call { n, start, counts, flags, mut hours } in old_logs::calls() {
+        match rebuild(n, &counts, &flags, start, &mut hours) {
+            Ok(()) if flags[..n as usize].contains(&0) => partly.insert(n),
+            Ok(()) => whole.insert(n),
+            Err(refusal) => told.insert((refusal.number, refusal.place)),
+        };
+    }
+    assert!([1, 2, 3, 5, 8, 9, 33, 200].iter().all(|n| whole.contains(n)), "{whole:?}");
+    assert!([1, 3, 5, 8, 9, 33, 200, 16_384].iter().all(|n| partly.contains(n)), "{partly:?}");
+    assert!([2, 14].iter().all(|&number| told.contains(&(number, 0)) && told.contains(&(number, 16_383))), "{told:?}");
 }
 
 /// The lengths of the records that are written and of those that are read.

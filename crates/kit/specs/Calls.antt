@@ -38,6 +38,9 @@ third e = e .1 .1 .0
 abbrev pub fourth : {A B C D E : Type 0} → A × (B × (C × (D × E))) → D
 fourth e = e .1 .1 .1 .0
 
+abbrev pub fifth : {A B C D E F : Type 0} → A × (B × (C × (D × (E × F)))) → E
+fifth e = e .1 .1 .1 .1 .0
+
 module _ (T : Ended) where
   -- The lifetimes κs of what is lent come first, then the arguments one by one, the answer, and the parameters.
   abbrev pub Promise : Type 1

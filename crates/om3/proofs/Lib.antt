@@ -1,8 +1,10 @@
 -- Why the definitions are right, in reading order.
 pub mod Numbers
 pub mod Causes
+pub mod LaterNumbers
 pub mod Tests
 pub mod Lists
+pub mod Turns
 pub mod Arithmetic
 pub mod Levels
 pub mod Nodes
@@ -23,6 +25,7 @@ pub mod TurnedBack
 pub mod Agreeing
 pub mod Lent
 pub mod Demand2
+pub mod HourChecks
 pub mod Making
 pub mod Taken
 pub mod Bytes
@@ -58,3 +61,5 @@ pub mod ColumnRanges
 pub mod Demand3
 pub mod PrintedColumns
 pub mod RefusalLines
+pub mod OldLogs
+pub mod TrueLogs

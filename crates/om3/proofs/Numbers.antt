@@ -7,15 +7,15 @@ use Rattle.om3.specs.Document.{recordOf, tableIn, opening, askingView, a
 use Rattle.om3.specs.Document.{visited, countAt, rangeOver, outer, innerNodes, stopped, walkNodes, walkEnd}
 use Rattle.om3.specs.Document.{insideNodes, finished, dayChange, split, windowLine, hourLine, withoutEnd}
 use Rattle.om3.specs.Document.{digitsOf, decimal, columnLines, checkLines, checkNumbers, printed, Answered}
-use Rattle.om3.specs.Document.{numbers, unmarked, outside, further, printing}
+use Rattle.om3.specs.Document.{weightsAfter, heldAt, checkFlags, numbers, unmarked, outside, further, printing}
 
--- What is computed, for these lists and for that of Causes.
+-- What is computed, for these lists and for those of Causes and LaterNumbers.
 unfoldable pub computing : Unit {0}
 unfolding upFrom any every keep firstFrom levels hourOf width start hours levelOf look rangeOf coefficient pairCode
     reachedAt inOrder soundNode nodesBelow examine checkReadings edges shares inside opened visited countAt
     rangeOver outer innerNodes stopped walkNodes walkEnd lastOf insideNodes finished dayChange levelStretch bytesOf
     numberFrom signedOf recordOf tableIn opening askingView asking split windowLine hourLine withoutEnd digitsOf
-    decimal columnLines checkLines checkNumbers printed flatMap flatten
+    decimal columnLines checkLines checkNumbers printed weightsAfter heldAt checkFlags flatMap flatten
 computing = tt
 
 -- The numbers marked [P], 1 to 10.

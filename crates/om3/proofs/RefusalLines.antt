@@ -6,7 +6,7 @@ use Rattle.signed.proofs.{clash}
 use Rattle.words.specs.{numberOf, placeOf, declared.Refusal.Refusal}
 use Rattle.words.specs.declared.Refusal.the-variants.{BadHours, BadReading, ShortBuffer, Unsound, BadWindow, BadColumn}
 use Rattle.words.specs.declared.Refusal.the-variants.{TooDeep, CutShort, BadVersion, BadLength, BytesAfter, BadLine}
-use Rattle.words.specs.declared.Refusal.the-variants.{BadPlace}
+use Rattle.words.specs.declared.Refusal.the-variants.{BadPlace, BadFlag, BadStart}
 use Rattle.om3.specs.Document.{every, hour, passes, refuses, ascii, lineFeed, space, isDigit, valueOf, decimal}
 use Rattle.om3.specs.Document.{refusalLine, drawnText}
 use Rattle.om3.proofs.{Tests.and-left, Tests.and-right, Arithmetic.decimal-back, Arithmetic.decimal-digits}
@@ -64,7 +64,9 @@ refusalOf number place =
     (cond (eqb number 9) BadVersion
     (cond (eqb number 10) BadLength
     (cond (eqb number 11) BytesAfter
-    (cond (eqb number 12) (BadLine place) BadPlace)))))))))))
+    (cond (eqb number 12) (BadLine place)
+    (cond (eqb number 13) BadPlace
+    (cond (eqb number 14) (BadFlag (hour place)) BadStart)))))))))))))
 
 refusal-back : (why : Refusal) → refusalOf (numberOf why) (placeOf why) ≡ why
 refusal-back BadHours = refl
@@ -80,6 +82,8 @@ refusal-back BadLength = refl
 refusal-back BytesAfter = refl
 refusal-back (BadLine i) = refl
 refusal-back BadPlace = refl
+refusal-back (BadFlag h) = refl
+refusal-back BadStart = refl
 
 -- One line has one cause.
 pub line-one : (y z : Refusal) → refusalLine y ≡ refusalLine z → y ≡ z

@@ -1,4 +1,4 @@
--- The names of document 01's definitions, chapter by chapter, passed on from one place to the proofs and to other
+-- The names of the documents' definitions, chapter by chapter, passed on from one place to the proofs and to other
 -- crates. Nothing is defined here. Assumes nothing.
 pub use Rattle.om3.specs.Lists.{sum}
 unfoldable pub use Rattle.om3.specs.Lists.{upFrom, any, every, keep, lastOf, firstFrom}
@@ -52,8 +52,16 @@ unfoldable pub use Rattle.om3.specs.Text.{split, windowLine, hourLine, w
 pub use Rattle.om3.specs.Printed.{signedDecimal, refusalLine, fourFields, columnLine, header, drawnText, gramsOf}
 pub use Rattle.om3.specs.Printed.{checkNumber, printingChecks, printedOf}
 unfoldable pub use Rattle.om3.specs.Printed.{digitsOf, decimal, columnLines, checkLines, checkNumbers, printed}
+pub use Rattle.om3.specs.OldLog.{flagOf, countOf, recorded, recordedHours, residue, wrapped, signedStep, step}
+pub use Rattle.om3.specs.OldLog.{rebuilt, rebuiltSeries, checkFlag, checkStart, checkWeight, checkWeights}
+pub use Rattle.om3.specs.OldLog.{rebuildingChecks, rebuilding, Neighbours, TrueLog, trueSeries}
+unfoldable pub use Rattle.om3.specs.OldLog.{weightsAfter, heldAt, checkFlags}
+pub use Rattle.om3.specs.OldText.{namesStart, startOf, isCount, countIn, flagIn, checkStartLine, checkCount}
+pub use Rattle.om3.specs.OldText.{oldTextChecks, weightText, rebuiltOf}
+unfoldable pub use Rattle.om3.specs.OldText.{checkCounts, seriesText, rebuiltText}
 pub use Rattle.om3.specs.Looked.{readingOf, lookOver, Covers, LiesWithin}
 unfoldable pub use Rattle.om3.specs.Looked.{readingsIn, least, greatest, lookThrough}
 pub use Rattle.om3.specs.Drawn.{Drawn, Ranged}
 pub use Rattle.om3.specs.Numbers.{Answered, numbers, unmarked, outside, further, printing}
 pub use Rattle.om3.specs.TwoCauses.{twoCauses}
+pub use Rattle.om3.specs.LaterNumbers.{oldLogs}

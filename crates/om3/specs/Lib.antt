@@ -1,4 +1,5 @@
--- Document 01 as definitions, in its order; Looked and Drawn, what demand 3 compares them with.
+-- Document 01 as definitions, in its order; OldLog and OldText, document 02's first wish; Looked and Drawn, what
+-- demand 3 compares them with.
 pub mod Lists
 pub mod Series
 pub mod Nodes
@@ -20,9 +21,12 @@ pub mod Joined
 pub mod Days
 pub mod Text
 pub mod Printed
+pub mod OldLog
+pub mod OldText
 pub mod Looked
 pub mod Drawn
 pub mod Questions
 pub mod Numbers
 pub mod TwoCauses
+pub mod LaterNumbers
 pub mod Document

@@ -2,7 +2,7 @@
 -- so is proved in proofs/Numbers. Assumes nothing.
 --
 --   Case, Answered    a question with its answer, `q is r`; each question of a list is answered so
---   g m               grams; refusal, a refusal's number and place as a reply
+--   g m, -g m         grams, and grams below zero; refusal, a refusal's number and place as a reply
 --   text prints lines a text and what is printed for it
 --   seven             the printer's seven hours
 --   numbers c e       the numbers marked [P], 1 to 10; c and e are the codes that 9 and 10 leave open
@@ -41,7 +41,7 @@ _is_ question reply = record { question = question; reply = reply }
 abbrev pub g : ℕ → ℤ
 g m = pos m
 
-abbrev -g : ℕ → ℤ
+abbrev pub -g : ℕ → ℤ
 -g m = negℤ (pos m)
 
 -- A column as the printer prints it, with the hours of its first and its last reading.

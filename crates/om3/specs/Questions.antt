@@ -1,5 +1,4 @@
--- Questions about document 01's definitions, and what these reply; asked by Numbers and TwoCauses. Assumes
--- nothing.
+-- Questions about the definitions, and what these reply; asked by Numbers, TwoCauses and LaterNumbers. Assumes nothing.
 --
 --   Question, Reply   what is asked; what is replied
 --   tableFrom n s     the table of n hours that hold s
@@ -8,11 +7,12 @@ use mathlib.Core.List.{List, [], _∷_}
 use Prim.Native.Nat.{ℕ}
 use lib.IntN.{ℤ, pos}
 use lib.ListN.{length, replicate}
-use Rattle.words.specs.Said.{Said, taken, saidOfTaking}
+use Rattle.words.specs.Said.{Said, refused, taken, saidOfTaking}
 use Rattle.words.specs.Said.{saidOfFinished, saidOfStopped, saidOfEdges, saidOfDayChange}
 use Rattle.words.specs.Said.{saidOfWriting, saidOfUnpacking, saidOfOpening, saidOfAsking}
 use Rattle.om3.specs.Series.{levels}
 use Rattle.om3.specs.Table.{Table, lent, tableOf}
+use Rattle.om3.specs.Checks.{inOrder, answerBy}
 use Rattle.om3.specs.Calls.{making, turningBack}
 use Rattle.om3.specs.Level.{levelStretch, placesOf}
 use Rattle.om3.specs.Record.{recordLength, recordSize, recordOf}
@@ -22,6 +22,7 @@ use Rattle.om3.specs.Stopped.{stopped}
 use Rattle.om3.specs.Finished.{finished}
 use Rattle.om3.specs.Days.{dayChange}
 use Rattle.om3.specs.Printed.{printed}
+use Rattle.om3.specs.OldLog.{rebuildingChecks, rebuiltSeries}
 
 pub data Question : Type 0 where
   -- the table of n hours that hold s; what making it answers
@@ -55,6 +56,8 @@ pub data Question : Type 0 where
   viewFor : (bytes : List ℕ) (places p : ℕ) → Question
   -- what is printed for a text
   printFor : (text : List ℕ) → Question
+  -- what rebuilding an old log answers, with room for n hours, and what it writes there
+  rebuildFor : (n : ℕ) (counts flags : List ℕ) (start : ℤ) → Question
 
 pub data Reply : Type 0 where
   table : List ℤ → List ℕ → Reply
@@ -87,5 +90,9 @@ replyTo (openFor r) = says (saidOfOpening (opening r))
 replyTo (askFor r p) = says (saidOfAsking (asking r p))
 replyTo (viewFor r places p) = says (saidOfAsking (askingView r places p))
 replyTo (printFor text) = bytes (printed text)
+replyTo (rebuildFor n counts flags start) =
+    says
+    (answerBy refused (inOrder (rebuildingChecks n counts flags start n))
+    (taken (rebuiltSeries n counts flags start)))
 replyTo (edgesFor n a b w k) = says (saidOfEdges (edges n a b w k))
 replyTo (sizeFor n) = says (taken (pos (recordLength n) ∷ pos (recordSize n) ∷ []))

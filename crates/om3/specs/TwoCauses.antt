@@ -1,7 +1,7 @@
--- Document 01, "Refusal numbers" and "The column printer": where two causes stand together, the one whose turn is first
--- decides. For each call and each two neighbours of its order a question in which both are there, so that with the two
--- exchanged it would be replied to otherwise; where they exclude each other, a comment says so. That the definitions
--- reply as the list says is proved in proofs/Causes. Assumes nothing.
+-- Document 01, "Refusal numbers" and "The column printer", and document 02: where two causes stand together, the one
+-- whose turn is first decides. For each call and each two neighbours of its order a question in which both are there,
+-- so that with the two exchanged it would be replied to otherwise; where they exclude each other, a comment says so.
+-- That the definitions reply as the list says is proved in proofs/Causes. Assumes nothing.
 --
 --   twoCauses   the questions with their replies, for each two neighbours the first; above them the order of the call
 use mathlib.Core.List.{List, [], _∷_, _++_, flatten}
@@ -10,7 +10,7 @@ use lib.IntN.{ℤ}
 use lib.ListN.{replicate}
 use Rattle.words.specs.Constants.{largestHours}
 use Rattle.om3.specs.Questions.{makingFor, turningFor, finishedIn, stoppedIn, dayIn, edgesFor, writingFor}
-use Rattle.om3.specs.Questions.{readingFor, openFor, askFor, viewFor, printFor, bytes}
+use Rattle.om3.specs.Questions.{readingFor, openFor, askFor, viewFor, printFor, rebuildFor, bytes}
 use Rattle.om3.specs.Text.{ascii}
 use Rattle.om3.specs.Numbers.{Case, _is_, _prints_, g, refusal, eight, fourteen, damaged}
 
@@ -114,4 +114,9 @@ twoCauses =
     ∷ (printFor (ascii "0 1 1\n1000001\n" ++ dashes) is bytes (ascii "refused 1 at 0\n"))
     ∷ ("1 1 1\n1000001" prints "refused 2 at 0\n")
     ∷ ("1 1 0\n5" prints "refused 5 at 0\n")
+    -- rebuilding an old log 1, 3, 14, 15, 2 [wish1 6]
+    ∷ (rebuildFor tooMany [] [] (g 5) is refusal 1 0)
+    ∷ (rebuildFor 2 (5 ∷ []) (2 ∷ 1 ∷ []) (g 5) is refusal 3 0)
+    ∷ (rebuildFor 2 (5 ∷ 5 ∷ []) (1 ∷ 2 ∷ []) (g 6) is refusal 14 1)
+    ∷ (rebuildFor 1 (5 ∷ []) (1 ∷ []) (g 2000003) is refusal 15 0)
     ∷ []

@@ -1,7 +1,4 @@
 -- Why printing meets its contracts.
-pub mod Putting
-pub mod Digits
-pub mod Numbers
 pub mod Lines
 pub mod ColumnLines
 pub mod Deciding

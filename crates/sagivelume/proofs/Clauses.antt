@@ -1,13 +1,14 @@
 -- What the calls of the boundary ask, which is nothing, and what they promise, of their contracts as the kit reads
 -- them. Assumes nothing.
 use Rattle.kit.proofs.{_≡_, refl, sym, ap, _∙_, List, length, ℕ, ℤ}
-use Rattle.kit.specs.Calls.{Promise, Call, second, third, fourth}
+use Rattle.kit.specs.Calls.{Promise, Call, second, third, fourth, fifth}
 use denote.Ref.{now}
 use Rattle.om3.specs.Document.{lent, levelStretch, opening, askingView, edges as edgesOf, stopped as stoppedOf}
 use Rattle.om3.specs.Document.{finished as finishedOf, joined, dayChange}
 use Rattle.sizes.specs.Needed.{placesNeeded, bytesNeeded}
 use Rattle.making.specs.Making.{Made}
 use Rattle.turning.specs.Turning.{TurnedBack}
+use Rattle.old_log.specs.Rebuilding.{Rebuilt}
 use Rattle.writing.specs.Writing.{RecordWritten}
 use Rattle.reading.specs.Reading.{RecordRead}
 use Rattle.told.specs.declared.{tables.Told.Told, records.ToldBytes.ToldBytes, records.ToldHours.ToldHours}
@@ -90,6 +91,26 @@ turn-back-call =
     record {
       clauses = λ 𝓤 H A mem run. refl;
       meets = boundary.sagivelume_turn_back.Met.met;
+      one = λ κs a r r′ e e′ x y i. (
+        (tells-one x (x .keeps .answer) ∙ sym (tells-one y (y .keeps .answer))) i,
+        (x .keeps .hours ∙ sym (y .keeps .hours)) i,
+      );
+    }
+
+abbrev pub RebuildPromises : Promise boundary.sagivelume_rebuild.ended
+RebuildPromises κs n counts flags start hours r e =
+    Tells (Rebuilt n (now counts) (now flags) start (now hours) (now (fifth e))) takingTold r
+
+abbrev pub RebuildCall : Type 2
+RebuildCall =
+    Call boundary.sagivelume_rebuild.ended (λ M. boundary.sagivelume_rebuild.clauses {M = M})
+    boundary.sagivelume_rebuild.Symbol.routine RebuildPromises {B = Told × List ℤ} (λ κs r e. (r, now (fifth e)))
+
+pub rebuild-call : RebuildCall
+rebuild-call =
+    record {
+      clauses = λ 𝓤 H A mem run. refl;
+      meets = boundary.sagivelume_rebuild.Met.met;
       one = λ κs a r r′ e e′ x y i. (
         (tells-one x (x .keeps .answer) ∙ sym (tells-one y (y .keeps .answer))) i,
         (x .keeps .hours ∙ sym (y .keeps .hours)) i,

@@ -25,6 +25,7 @@ ghost use Rattle.om3.specs.Days.{dayChange};
 ghost use Rattle.sizes.specs.Needed.{placesNeeded, bytesNeeded};
 ghost use Rattle.making.specs.Making.{Made};
 ghost use Rattle.turning.specs.Turning.{TurnedBack};
+ghost use Rattle.old_log.specs.Rebuilding.{Rebuilt};
 ghost use Rattle.writing.specs.Writing.{RecordWritten};
 ghost use Rattle.reading.specs.Reading.{RecordRead};
 ghost use Rattle.told.specs.Tables.{takingTold};
@@ -74,6 +75,22 @@ pub extern "C" fn sagivelume_turn_back(
         (now (hours .entry)) (now (hours .exit))) takingTold r ⌝ }
 {
     told::tables::of_taking(turning::turn_back(n, coefficients, codes, hours))
+}
+
+// Rebuilds the series of an old scale's log of n hours, from the weight at its first recorded hour: needs n counts, n
+// flags and room for n hours. Refusals 1, 3, 14, 15, 2.
+#[no_mangle]
+pub extern "C" fn sagivelume_rebuild(
+    n: usize,
+    counts: &[u16],
+    flags: &[u8],
+    start: i32,
+    hours: &mut [i32],
+) -> Told
+    ensures { λ r. ⌜ Tells (Rebuilt n (now (counts .entry)) (now (flags .entry)) start
+        (now (hours .entry)) (now (hours .exit))) takingTold r ⌝ }
+{
+    told::tables::of_taking(old_log::rebuild(n, counts, flags, start, hours))
 }
 
 // Where level j's details stand in the lent coefficients of a table of n hours; length 0 where there is no such level.

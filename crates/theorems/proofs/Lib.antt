@@ -5,12 +5,15 @@ pub mod Refused
 pub mod Calls
 pub mod Records
 pub mod Boundary
+pub mod Rebuilt
 pub mod Views
 pub mod Printer
+pub mod Rebuilder
 pub mod Theorems
 pub mod Demand1
 pub mod Demand2
 pub mod Demand3
 pub mod Besides
+pub mod Wishes
 pub mod Laws
 pub mod Figures

@@ -1,6 +1,7 @@
 -- Each call is such a call, as its own crate shows. Assumes nothing.
 use Rattle.sizes.proofs.Clauses as sizes
 use Rattle.making.proofs.Clauses as making
+use Rattle.old_log.proofs.Clauses as old_log
 use Rattle.turning.proofs.Clauses as turning
 use Rattle.level.proofs.Clauses as leveling
 use Rattle.writing.proofs.Clauses as writing
@@ -13,6 +14,7 @@ use Rattle.answers.proofs.Clauses as answers
 use Rattle.days.proofs.Clauses as days
 use Rattle.parsing.proofs.Clauses as parsing
 use Rattle.printing.proofs.Clauses as printing
+use Rattle.old_text.proofs.Clauses as old_text
 use Rattle.sagivelume.proofs.Clauses as boundary
 use Rattle.theorems.specs.Once.{EachTold, EachCall}
 
@@ -23,6 +25,7 @@ each-told =
       record-bytes = boundary.record-bytes-call;
       make = boundary.make-call;
       turn-back = boundary.turn-back-call;
+      rebuild = boundary.rebuild-call;
       level = boundary.level-call;
       write-record = boundary.write-record-call;
       read-record = boundary.read-record-call;
@@ -43,6 +46,7 @@ each-call =
       bytes-needed = sizes.bytes-call;
       make = making.make-call;
       turn-back = turning.turn-back-call;
+      rebuild = old_log.rebuild-call;
       stretch = leveling.stretch-call;
       level = leveling.level-call;
       write-record = writing.write-record-call;
@@ -62,4 +66,6 @@ each-call =
       close = parsing.close-call;
       decide = printing.decide-call;
       print = printing.print-call;
+      decide-old-log = old_text.decide-call;
+      print-old-log = old_text.print-call;
     }

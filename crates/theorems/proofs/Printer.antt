@@ -11,12 +11,12 @@ use Rattle.printing.proofs.{InPieces.rest, InPieces.Few, InPieces.piece-then, I
 use Rattle.printing.proofs.DrawnWhole.{decided-whole}
 use Rattle.theorems.specs.Printer.{ReadAll, Written, WrittenFrom, Prints}
 
-read-all : (pieces : List (List ℕ)) (p q : Progress) → ReadAll pieces p q → q ≡ foldl readOn p pieces
+pub read-all : (pieces : List (List ℕ)) (p q : Progress) → ReadAll pieces p q → q ≡ foldl readOn p pieces
 read-all [] p q e = e
 read-all (piece ∷ pieces) p q (m, e, more) = read-all pieces m q more ∙ ap (λ x. foldl readOn x pieces) e
 
 -- A text put at the start of a buffer that has room for it.
-put-first : (text out : List ℕ) → length text ≤ length out → sets out 0 text ≡ filled text out
+pub put-first : (text out : List ℕ) → length text ≤ length out → sets out 0 text ≡ filled text out
 put-first text out h =
     let z : 0 + length text ≡ length text = omega arith in
     sets-eq text out 0 (omega arith) ∙ ap (λ m. text ++ drop m out) z

@@ -36,6 +36,8 @@ none-zero refusal.BadLength e = omega arith
 none-zero refusal.BytesAfter e = omega arith
 none-zero (refusal.BadLine i) e = omega arith
 none-zero refusal.BadPlace e = omega arith
+none-zero (refusal.BadFlag h) e = omega arith
+none-zero refusal.BadStart e = omega arith
 
 -- A call with these checks, its answers, and how the boundary tells them: a refusal by its number and its place, and
 -- what is taken with the number 0.
@@ -110,6 +112,8 @@ each-refused =
           taking-refusal _ r (tells-one m (m .keeps .answer));
       turn-back = λ κs n coefficients codes hours r e m.
           taking-refusal _ r (tells-one m (m .keeps .answer));
+      rebuild = λ κs n counts flags start hours r e m.
+          taking-refusal _ r (tells-one m (m .keeps .answer));
       write-record = λ κs n coefficients codes bytes r e m.
           tells-refusal Writing.Refused _ writingTold (λ (u : ToldBytes). u .number) (λ (u : ToldBytes). u .place)
           (λ why. refl) (λ why. refl) refl _ r (tells-one m (m .keeps .answer));
@@ -152,6 +156,9 @@ nothing-written =
           (rw (c .1) at (m .keeps .coefficients), rw (c .1) at (m .keeps .codes));
       turn-back = λ κs n coefficients codes hours r e m other.
           let c = refused-by _ _ _ (each-refused .turn-back κs n coefficients codes hours r e m) other in
+          rw (c .1) at (m .keeps .hours);
+      rebuild = λ κs n counts flags start hours r e m other.
+          let c = refused-by _ _ _ (each-refused .rebuild κs n counts flags start hours r e m) other in
           rw (c .1) at (m .keeps .hours);
       write-record = λ κs n coefficients codes bytes r e m other.
           let c = refused-by _ _ _ (each-refused .write-record κs n coefficients codes bytes r e m) other in

@@ -8,6 +8,7 @@
 --   EachCall   these, and the calls behind them, those of the view and those of the printer
 use Rattle.sizes.proofs.Clauses as sizes
 use Rattle.making.proofs.Clauses as making
+use Rattle.old_log.proofs.Clauses as old_log
 use Rattle.turning.proofs.Clauses as turning
 use Rattle.level.proofs.Clauses as leveling
 use Rattle.writing.proofs.Clauses as writing
@@ -20,6 +21,7 @@ use Rattle.answers.proofs.Clauses as answers
 use Rattle.days.proofs.Clauses as days
 use Rattle.parsing.proofs.Clauses as parsing
 use Rattle.printing.proofs.Clauses as printing
+use Rattle.old_text.proofs.Clauses as old_text
 use Rattle.sagivelume.proofs.Clauses as boundary
 
 pub record EachTold : Type 2 where
@@ -27,6 +29,7 @@ pub record EachTold : Type 2 where
   pub record-bytes : boundary.RecordBytesCall
   pub make : boundary.MakeCall
   pub turn-back : boundary.TurnBackCall
+  pub rebuild : boundary.RebuildCall
   pub level : boundary.LevelCall
   pub write-record : boundary.WriteRecordCall
   pub read-record : boundary.ReadRecordCall
@@ -43,9 +46,11 @@ pub record EachCall : Type 2 where
   -- Sizes: the coefficients of a table, the bytes of a record.
   pub places-needed : sizes.PlacesCall
   pub bytes-needed : sizes.BytesCall
-  -- Tables: making and turning back; one level's details, as a stretch of places and as the lent part itself.
+  -- Tables: making and turning back; rebuilding the series of an old log; one level's details, as a stretch of places
+  -- and as the lent part itself.
   pub make : making.MakeCall
   pub turn-back : turning.TurnBackCall
+  pub rebuild : old_log.RebuildCall
   pub stretch : leveling.StretchCall
   pub level : leveling.LevelCall
   -- Records: writing and reading; opening; asking bytes of P coefficients, and asking a record; the view of a record.
@@ -68,3 +73,6 @@ pub record EachCall : Type 2 where
   pub close : parsing.CloseCall
   pub decide : printing.DecideCall
   pub print : printing.PrintCall
+  -- The old log reader: deciding what is printed, and printing it piece by piece.
+  pub decide-old-log : old_text.DecideCall
+  pub print-old-log : old_text.PrintCall

@@ -14,8 +14,9 @@ use Rattle.words.specs.Constants.{largestHours, mostColumns}
 use Rattle.om3.specs.Table.{Table, lent}
 use Rattle.om3.specs.Printed.{printed}
 use Rattle.parsing.specs.Parsing.{keptBytes, Progress, progress, begun, readOn, closed}
+use Rattle.putting.specs.Putting.{PutsShort}
 use Rattle.printing.specs.declared.Drawing.{Drawing}
-use Rattle.printing.specs.Printing.{columnsAtOnce, room, PutsShort, Decided, piece}
+use Rattle.printing.specs.Printing.{columnsAtOnce, room, Decided, piece}
 
 abbrev pub ReadAll : List (List ℕ) → Progress → Progress → Type 0
 ReadAll [] p q = q ≡ p

@@ -1,8 +1,8 @@
 -- Demand 1: what a refused call of the boundary tells, and that it writes nothing. A call is refused where the number
 -- that it tells is not 0; κs, the arguments, the answer r and the parameters e as the call leaves them are those that
 -- its promise is about (sagivelume/proofs/Clauses). The order of each call stands here check by check; what a check
--- asks, and of which number it is, is in om3/specs: Refusals and RecordCalls. [refusals 17, 18, 19, 20] Assumes
--- nothing.
+-- asks, and of which number it is, is in om3/specs: Refusals, RecordCalls and OldLog. [refusals 17, 18, 19, 20]
+-- [wish1 6] Assumes nothing.
 --
 --   RefusedTold checks number place   what is told of a call with these checks is what its first cause says
 --   EachRefused                       each call of the boundary that can refuse, with its checks
@@ -12,13 +12,14 @@ use mathlib.Core.List.{List, [], _∷_}
 use Prim.Native.Nat.{ℕ}
 use lib.ListN.{length}
 use denote.Ref.{now}
-use Rattle.kit.specs.Calls.{second, third, fourth}
+use Rattle.kit.specs.Calls.{second, third, fourth, fifth}
 use Rattle.words.specs.{numberOf, placeOf}
 use Rattle.words.specs.declared.Refusal.{Refusal}
 use Rattle.om3.specs.Document.{levels, Check, FirstCause, lent, checkHours, checkReadings, short, tableShort}
 use Rattle.om3.specs.Document.{checkRoom, examineTable, checkWindow, checkDay, checkColumn, checkDepth, recordSize}
 use Rattle.om3.specs.Document.{hoursIn, tableIn, checkHeader, checkVersion, checkLength, checkCut, checkAfter}
 use Rattle.om3.specs.Document.{checkPlace, checkReach, column, day, openedNodes, finishedNodes, examineColumn}
+use Rattle.om3.specs.Document.{checkFlags, recordedHours, checkStart, rebuilt, checkWeights}
 use Rattle.sagivelume.proofs.Clauses as boundary
 
 -- The number is not 0 exactly if some check refuses, and number and place are those of the first that does.
@@ -47,6 +48,17 @@ pub record EachRefused : Type 0 where
       (checkHours n
       ∷ checkRoom (tableShort n t || short (length (now hours)) n)
       ∷ examineTable n t
+      ∷ []) (r .number) (r .place)
+  -- 1, 3, 14, 15, 2
+  pub rebuild : (κs : _) (n : _) (counts : _) (flags : _) (start : _) (hours : _) (r : _) (e : _)
+      → boundary.RebuildPromises κs n counts flags start hours r e
+      → let cs = now counts in let fs = now flags in
+      RefusedTold
+      (checkHours n
+      ∷ checkRoom (short (length cs) n || (short (length fs) n || short (length (now hours)) n))
+      ∷ checkFlags n fs
+      ∷ checkStart cs start (recordedHours n fs)
+      ∷ checkWeights (rebuilt cs start (recordedHours n fs))
       ∷ []) (r .number) (r .place)
   -- 1, 3, 4
   pub write-record : (κs : _) (n : _) (coefficients : _) (codes : _) (bytes : _) (r : _) (e : _)
@@ -136,6 +148,8 @@ pub record NothingWritten : Type 0 where
       → (now (third e) ≡ now coefficients) × (now (fourth e) ≡ now codes)
   pub turn-back : (κs : _) (n : _) (coefficients : _) (codes : _) (hours : _) (r : _) (e : _)
       → boundary.TurnBackPromises κs n coefficients codes hours r e → ¬ (r .number ≡ 0) → now (fourth e) ≡ now hours
+  pub rebuild : (κs : _) (n : _) (counts : _) (flags : _) (start : _) (hours : _) (r : _) (e : _)
+      → boundary.RebuildPromises κs n counts flags start hours r e → ¬ (r .number ≡ 0) → now (fifth e) ≡ now hours
   pub write-record : (κs : _) (n : _) (coefficients : _) (codes : _) (bytes : _) (r : _) (e : _)
       → boundary.WriteRecordPromises κs n coefficients codes bytes r e → ¬ (r .number ≡ 0) → now (fourth e) ≡ now bytes
   pub read-record : (κs : _) (bytes : _) (coefficients : _) (codes : _) (r : _) (e : _)

@@ -7,7 +7,7 @@ use Rattle.words.specs.declared.{Asking.Asking, Edges.Edges, Stopped.Stopped, A
 use Rattle.words.specs.declared.{DayChange.DayChange}
 use Rattle.words.specs.declared.Refusal.the-variants.{BadHours, BadReading, ShortBuffer, Unsound, BadWindow, BadColumn}
 use Rattle.words.specs.declared.Refusal.the-variants.{TooDeep, CutShort, BadVersion, BadLength, BytesAfter, BadLine}
-use Rattle.words.specs.declared.Refusal.the-variants.{BadPlace}
+use Rattle.words.specs.declared.Refusal.the-variants.{BadPlace, BadFlag, BadStart}
 use Rattle.told.specs.Tables.{takingTold}
 use Rattle.told.specs.Records.{writingTold, unpackingTold, openingTold, askingTold}
 use Rattle.told.specs.Columns.{edgesTold, stoppedTold, answerTold, finishedTold, changeTold}
@@ -29,6 +29,8 @@ none-counts BadLength values = refl
 none-counts BytesAfter values = refl
 none-counts (BadLine i) values = refl
 none-counts BadPlace values = refl
+none-counts (BadFlag h) values = refl
+none-counts BadStart values = refl
 
 taking : (t : Taking) → toldSays (takingTold t) ≡ saidOfTaking t
 taking Taking.Taken = refl

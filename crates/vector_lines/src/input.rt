@@ -139,6 +139,15 @@ fn byte_of(x: Number) -> u8 {
     size as u8
 }
 
+// A number as a count of 16 bits; 0 if it does not fit.
+fn count_of(x: Number) -> u16 {
+    let size = x.size;
+    if size > 65_535 {
+        return 0;
+    }
+    size as u16
+}
+
 // A number as a length, cut at the room there is.
 fn length_of(x: Number, room: usize) -> usize
     ensures { λ r. ⌜ r ≤ room ⌝ }
@@ -171,6 +180,18 @@ fn fill_bytes(text: &[u8], at: usize, out: &mut [u8]) -> usize {
     x.next
 }
 
+// The same of counts.
+fn fill_counts(text: &[u8], at: usize, out: &mut [u16]) -> usize {
+    let mut x = before(at);
+    let mut k = 0;
+    while k < out.len() {
+        x = following(text, x);
+        out[k] = count_of(x);
+        k += 1;
+    }
+    x.next
+}
+
 // Takes a buffer from the input: its length, and its content at the start of the room.
 pub fn lend_grams(text: &[u8], at: usize, room: &mut [i32]) -> Lent
     ensures { λ r. ⌜ r .length ≤ length (now (room .exit)) ⌝ }
@@ -190,5 +211,16 @@ pub fn lend_bytes(text: &[u8], at: usize, room: &mut [u8]) -> Lent
     let x = number_at(text, at);
     let length = length_of(x, room.len());
     let next = fill_bytes(text, x.next, &mut room[..length]);
+    Lent { length, next }
+}
+
+// The same of counts.
+pub fn lend_counts(text: &[u8], at: usize, room: &mut [u16]) -> Lent
+    ensures { λ r. ⌜ r .length ≤ length (now (room .exit)) ⌝ }
+    ensures { λ r. ⌜ r .length ≡ length (take (r .length) (now (room .exit))) ⌝ }
+{
+    let x = number_at(text, at);
+    let length = length_of(x, room.len());
+    let next = fill_counts(text, x.next, &mut room[..length]);
     Lent { length, next }
 }

@@ -12,6 +12,7 @@ mod output;
 
 pub use input::grams_of;
 pub use input::lend_bytes;
+pub use input::lend_counts;
 pub use input::lend_grams;
 pub use input::number_at;
 pub use output::print_bytes;
@@ -26,7 +27,8 @@ ghost use lib.ListN.{length};
 // How long the input may be.
 const TEXT: usize = 2_097_152;
 
-// How long a buffer of grams may be, one of codes, and a record: more than the largest table needs.
+// How long a buffer of grams or of counts may be, one of codes, and a record, or flags: more than the largest table and
+// the longest log need.
 const GRAMS: usize = 16_500;
 
 const CODES: usize = 8_300;
@@ -41,6 +43,12 @@ pub fn no_text() -> [u8; TEXT]
 }
 
 pub fn no_grams() -> [i32; GRAMS]
+    ensures { λ r. do ⌜ (← ⟦GRAMS⟧ .entry) ≡ length r ⌝ }
+{
+    [0; GRAMS]
+}
+
+pub fn no_counts() -> [u16; GRAMS]
     ensures { λ r. do ⌜ (← ⟦GRAMS⟧ .entry) ≡ length r ⌝ }
 {
     [0; GRAMS]

@@ -1,10 +1,10 @@
 // Columns and days, drawn from a table; two answers joined.
 //
-//     8 n a b w k                          the edges of a column
-//     9 n a b w k d coefficients codes     a column stopped at depth d
-//     10 n a b w k coefficients codes      a finished column
-//     11 left right                        joining two answers
-//     12 n day coefficients codes          the change of a day
+//     21 n a b w k                         the edges of a column
+//     22 n a b w k d coefficients codes    a column stopped at depth d
+//     23 n a b w k coefficients codes      a finished column
+//     24 left right                        joining two answers
+//     25 n day coefficients codes          the change of a day
 //
 // An answer is found, which is 0 without a reading, the hours of the first reading and of the last, their grams, low
 // and high.
@@ -137,7 +137,7 @@ fn show_day_change(n: usize, coefficients: &[i32], codes: &[u8], day: usize) {
 }
 
 // A call for a column's edges, whose n begins at `at`. Tells where the next call begins.
-pub fn answer_edges(text: &[u8], at: usize) -> usize {
+fn answer_edges(text: &[u8], at: usize) -> usize {
     let asked = column_at(text, at);
     let next = asked.next;
     show_edges(asked);
@@ -145,7 +145,7 @@ pub fn answer_edges(text: &[u8], at: usize) -> usize {
 }
 
 // A call of stopping a column, whose n begins at `at`. Tells where the next call begins.
-pub fn answer_stopped(text: &[u8], at: usize) -> usize {
+fn answer_stopped(text: &[u8], at: usize) -> usize {
     let asked = column_at(text, at);
     let deep = vector_lines::number_at(text, asked.next);
     let depth = deep.size as usize;
@@ -160,7 +160,7 @@ pub fn answer_stopped(text: &[u8], at: usize) -> usize {
 }
 
 // A call of finishing a column, whose n begins at `at`. Tells where the next call begins.
-pub fn answer_finished(text: &[u8], at: usize) -> usize {
+fn answer_finished(text: &[u8], at: usize) -> usize {
     let asked = column_at(text, at);
     let mut coefficients = vector_lines::no_grams();
     let first = vector_lines::lend_grams(text, asked.next, &mut coefficients);
@@ -173,7 +173,7 @@ pub fn answer_finished(text: &[u8], at: usize) -> usize {
 }
 
 // A call of joining, whose left answer begins at `at`. Tells where the next call begins.
-pub fn answer_join(text: &[u8], at: usize) -> usize {
+fn answer_join(text: &[u8], at: usize) -> usize {
     let first = answer_at(text, at);
     let second = answer_at(text, first.next);
     let next = second.next;
@@ -184,7 +184,7 @@ pub fn answer_join(text: &[u8], at: usize) -> usize {
 }
 
 // A call for the change of a day, whose n begins at `at`. Tells where the next call begins.
-pub fn answer_day_change(text: &[u8], at: usize) -> usize {
+fn answer_day_change(text: &[u8], at: usize) -> usize {
     let hours = vector_lines::number_at(text, at);
     let asked = vector_lines::number_at(text, hours.next);
     let n = hours.size as usize;
@@ -197,4 +197,16 @@ pub fn answer_day_change(text: &[u8], at: usize) -> usize {
     let k = second.length;
     show_day_change(n, &coefficients[..c], &codes[..k], day);
     second.next
+}
+
+// Answers a call of this kind, whose numbers begin at `at`. A number that is no kind is passed over.
+pub fn answer(text: &[u8], kind: u64, at: usize) -> usize {
+    match kind {
+        21 => answer_edges(text, at),
+        22 => answer_stopped(text, at),
+        23 => answer_finished(text, at),
+        24 => answer_join(text, at),
+        25 => answer_day_change(text, at),
+        _ => at,
+    }
 }

@@ -1,10 +1,10 @@
 // Makes the calls that stand on standard input and writes what each answers: the vectors of the second program, which
 // also wrote what is to come out.
 //
-// A call is its kind, the numbers that it takes, and its buffers, each its length and then its content. The kinds are
-// numbered through: those of the boundary, that of the view, sizes; what each takes and tells stands in the file of its
-// group. What is written is the number of the refusal, 0 if the call was taken, its place, what the call tells, and the
-// whole content of each buffer that was lent to be written.
+// A call is its kind, the numbers that it takes, and its buffers, each its length and then its content. The tens of a
+// kind are its group; what each kind of a group takes and tells stands in the group's file. What is written is the
+// number of the refusal, 0 if the call was taken, its place, what the call tells, and the whole content of each buffer
+// that was lent to be written.
 //
 // What the calls answer is stated and proved where they stand. As in `vector_lines`, which reads and writes the
 // numbers, the contracts here say no more than safety needs.
@@ -17,21 +17,10 @@ fn answer(text: &[u8], at: usize) -> usize {
     let number = vector_lines::number_at(text, at);
     let next = number.next;
     let kind = number.size;
-    match kind {
-        1 => table_calls::answer_make(text, next),
-        2 => table_calls::answer_turn_back(text, next),
-        3 => table_calls::answer_level(text, next),
-        4 => record_calls::answer_write(text, next),
-        5 => record_calls::answer_read(text, next),
-        6 => record_calls::answer_open(text, next),
-        7 => record_calls::answer_ask(text, next),
-        8 => column_calls::answer_edges(text, next),
-        9 => column_calls::answer_stopped(text, next),
-        10 => column_calls::answer_finished(text, next),
-        11 => column_calls::answer_join(text, next),
-        12 => column_calls::answer_day_change(text, next),
-        13 => record_calls::answer_ask_record(text, next),
-        14 => table_calls::answer_sizes(text, next),
+    match kind / 10 {
+        0 => table_calls::answer(text, kind, next),
+        1 => record_calls::answer(text, kind, next),
+        2 => column_calls::answer(text, kind, next),
         _ => next,
     }
 }

@@ -1,10 +1,10 @@
 // Records: written, read, opened and asked. The last is a call of the view, which opens and asks at once.
 //
-//     4 n coefficients codes record        writing
-//     5 record coefficients codes          reading
-//     6 record                             opening
-//     7 places place record                asking an opened record, which has so many places
-//     13 place record                      opening and asking
+//     11 n coefficients codes record       writing
+//     12 record coefficients codes         reading
+//     13 record                            opening
+//     14 places place record               asking an opened record, which has so many places
+//     15 place record                      opening and asking
 //
 // They tell how many bytes were written, the hours read, the hours and the places opened, the coefficient.
 use words::Asking;
@@ -62,7 +62,7 @@ fn show_ask_record(bytes: &[u8], place: usize) {
 }
 
 // A call of writing, whose n begins at `at`. Tells where the next call begins.
-pub fn answer_write(text: &[u8], at: usize) -> usize {
+fn answer_write(text: &[u8], at: usize) -> usize {
     let hours = vector_lines::number_at(text, at);
     let n = hours.size as usize;
     let mut coefficients = vector_lines::no_grams();
@@ -79,7 +79,7 @@ pub fn answer_write(text: &[u8], at: usize) -> usize {
 }
 
 // A call of reading, whose record begins at `at`. Tells where the next call begins.
-pub fn answer_read(text: &[u8], at: usize) -> usize {
+fn answer_read(text: &[u8], at: usize) -> usize {
     let mut bytes = vector_lines::no_record();
     let first = vector_lines::lend_bytes(text, at, &mut bytes);
     let b = first.length;
@@ -94,7 +94,7 @@ pub fn answer_read(text: &[u8], at: usize) -> usize {
 }
 
 // A call of opening, whose record begins at `at`. Tells where the next call begins.
-pub fn answer_open(text: &[u8], at: usize) -> usize {
+fn answer_open(text: &[u8], at: usize) -> usize {
     let mut bytes = vector_lines::no_record();
     let only = vector_lines::lend_bytes(text, at, &mut bytes);
     let b = only.length;
@@ -103,7 +103,7 @@ pub fn answer_open(text: &[u8], at: usize) -> usize {
 }
 
 // A call of asking an opened record, whose places begin at `at`. Tells where the next call begins.
-pub fn answer_ask(text: &[u8], at: usize) -> usize {
+fn answer_ask(text: &[u8], at: usize) -> usize {
     let has = vector_lines::number_at(text, at);
     let asked = vector_lines::number_at(text, has.next);
     let places = has.size as usize;
@@ -116,7 +116,7 @@ pub fn answer_ask(text: &[u8], at: usize) -> usize {
 }
 
 // A call of opening and asking, whose place begins at `at`. Tells where the next call begins.
-pub fn answer_ask_record(text: &[u8], at: usize) -> usize {
+fn answer_ask_record(text: &[u8], at: usize) -> usize {
     let asked = vector_lines::number_at(text, at);
     let place = asked.size as usize;
     let mut bytes = vector_lines::no_record();
@@ -124,4 +124,16 @@ pub fn answer_ask_record(text: &[u8], at: usize) -> usize {
     let b = only.length;
     show_ask_record(&bytes[..b], place);
     only.next
+}
+
+// Answers a call of this kind, whose numbers begin at `at`. A number that is no kind is passed over.
+pub fn answer(text: &[u8], kind: u64, at: usize) -> usize {
+    match kind {
+        11 => answer_write(text, at),
+        12 => answer_read(text, at),
+        13 => answer_open(text, at),
+        14 => answer_ask(text, at),
+        15 => answer_ask_record(text, at),
+        _ => at,
+    }
 }

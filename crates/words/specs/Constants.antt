@@ -4,6 +4,7 @@
 --   largestReading, largestDetail      the largest reading and the largest detail; the least are their negatives
 --   leftMark, rightMark, gapMark, gap  the marks; gap is the last as a signed number, what a gap holds
 --   mostColumns, dayHours, version     the most columns of a window, the hours of a day, the record's version
+--   turn, halfTurn                     a turn of an old scale's count, and half of it
 use Prim.Native.Nat.{ℕ, _^_}
 use lib.IntN.{ℤ, pos}
 
@@ -43,6 +44,13 @@ mostColumns = 4096
 -- A day has 24 hours. [columns 21]
 abbrev pub dayHours : ℕ
 dayHours = 24
+
+-- A count of the old scales turns over at 65,536; half a turn is the largest step down. [wish1 3, 4]
+abbrev pub turn : ℕ
+turn = 65536
+
+abbrev pub halfTurn : ℕ
+halfTurn = 32768
 
 -- The version of the house record. [record 3]
 abbrev pub version : ℕ

@@ -4,7 +4,7 @@ pub mod Said
 pub mod Bounds
 -- Passed on by their names alone.
 pub use Constants.{largestLevel, largestHours, largestReading, largestDetail, leftMark, rightMark, gapMark, gap}
-pub use Constants.{mostColumns, dayHours, version}
+pub use Constants.{mostColumns, dayHours, version, turn, halfTurn}
 pub use Said.{numberOf, placeOf, lowOf, highOf, refused, taken, valuesOf, saidOfFinished, saidOfStopped}
 pub use Said.{saidOfTaking, saidOfEdges, saidOfDayChange, saidOfWriting, saidOfUnpacking, saidOfOpening, saidOfAsking}
 pub use Bounds.{Readings}

@@ -15,7 +15,7 @@ use Rattle.words.specs.declared.Range.the-variants.{Empty, Held}
 use Rattle.words.specs.declared.Refusal.{Refusal}
 use Rattle.words.specs.declared.Refusal.the-variants.{BadHours, BadReading, ShortBuffer, Unsound, BadWindow}
 use Rattle.words.specs.declared.Refusal.the-variants.{BadColumn, TooDeep, CutShort, BadVersion, BadLength}
-use Rattle.words.specs.declared.Refusal.the-variants.{BytesAfter, BadLine, BadPlace}
+use Rattle.words.specs.declared.Refusal.the-variants.{BytesAfter, BadLine, BadPlace, BadFlag, BadStart}
 use Rattle.words.specs.declared.Answer.{Answer}
 use Rattle.words.specs.declared.Finished.{Finished}
 use Rattle.words.specs.declared.Stopped.{Stopped}
@@ -27,7 +27,7 @@ use Rattle.words.specs.declared.Unpacking.{Unpacking}
 use Rattle.words.specs.declared.Opening.{Opening}
 use Rattle.words.specs.declared.Asking.{Asking}
 
--- The number of a refusal. [refusals 1, 2, 3, 4, 5, 6, 7, 8, 9, 10, 11, 12, 13]
+-- The number of a refusal. [refusals 1, 2, 3, 4, 5, 6, 7, 8, 9, 10, 11, 12, 13] [wish1 6]
 abbrev pub numberOf : Refusal → ℕ
 numberOf BadHours = 1
 numberOf (BadReading h) = 2
@@ -42,9 +42,11 @@ numberOf BadLength = 10
 numberOf BytesAfter = 11
 numberOf (BadLine line) = 12
 numberOf BadPlace = 13
+numberOf (BadFlag h) = 14
+numberOf BadStart = 15
 
 -- Its place: an hour, a node's number, a line counted from 1, else 0.
--- [refusals 1, 2, 3, 4, 5, 6, 7, 8, 9, 10, 11, 12, 13]
+-- [refusals 1, 2, 3, 4, 5, 6, 7, 8, 9, 10, 11, 12, 13] [wish1 6]
 abbrev pub placeOf : Refusal → ℕ
 placeOf BadHours = 0
 placeOf (BadReading h) = h .0
@@ -59,6 +61,8 @@ placeOf BadLength = 0
 placeOf BytesAfter = 0
 placeOf (BadLine line) = line
 placeOf BadPlace = 0
+placeOf (BadFlag h) = h .0
+placeOf BadStart = 0
 
 -- Low and high of a range, both 2,000,003 if it is empty. [table 2]
 abbrev pub lowOf : Range → ℤ

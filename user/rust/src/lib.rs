@@ -35,6 +35,7 @@ mod column;
 mod finished;
 #[allow(unsafe_code)]
 mod linked;
+mod old_log;
 mod record;
 mod refusal;
 mod sizes;
@@ -42,6 +43,7 @@ mod table;
 
 pub use column::*;
 pub use finished::*;
+pub use old_log::*;
 pub use record::*;
 pub use refusal::*;
 pub use sizes::*;

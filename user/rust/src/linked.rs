@@ -40,6 +40,17 @@ extern "C" {
         hours_length: usize,
     ) -> Told;
 
+    fn sagivelume_rebuild(
+        n: usize,
+        counts: *const u16,
+        counts_length: usize,
+        flags: *const u8,
+        flags_length: usize,
+        start: i32,
+        hours: *mut i32,
+        hours_length: usize,
+    ) -> Told;
+
     fn sagivelume_level(n: usize, j: usize, coefficients: *const i32, coefficients_length: usize) -> Stretch;
 
     fn sagivelume_write_record(
@@ -142,6 +153,23 @@ pub(crate) fn turn_back(n: usize, coefficients: &[i32], codes: &[u8], hours: &mu
             coefficients.len(),
             codes.as_ptr(),
             codes.len(),
+            hours.as_mut_ptr(),
+            hours.len(),
+        )
+    }
+}
+
+/// Rebuilds a series from the log of an old scale.
+pub(crate) fn rebuild(n: usize, counts: &[u16], flags: &[u8], start: i32, hours: &mut [i32]) -> Told {
+    // SAFETY: as at the `extern` block: three live slices with their lengths, the last lent to this call alone.
+    unsafe {
+        sagivelume_rebuild(
+            n,
+            counts.as_ptr(),
+            counts.len(),
+            flags.as_ptr(),
+            flags.len(),
+            start,
             hours.as_mut_ptr(),
             hours.len(),
         )

@@ -19,7 +19,8 @@ use core::fmt;
 pub struct Refusal {
     /// The number.
     pub number: u8,
-    /// The first such hour for 2, the number of the first such node for 4, 0 for the root values, and 0 for all others.
+    /// The first such hour for 2 and 14, the number of the first such node for 4, 0 for the root values, and 0 for all
+    /// others.
     pub place: usize,
 }
 
@@ -62,6 +63,8 @@ refusals! {
     BYTES_AFTER 11 "bytes follow the record"
     BAD_LINE 12 "a line of the text is bad"
     BAD_PLACE 13 "the place asked for is not below the number of places"
+    BAD_FLAG 14 "a flag is neither 0 nor 1"
+    BAD_START 15 "the start differs from the first recorded count modulo 65,536"
 }
 
 /// The line that document 01 has for a refusal; with `{:#}` the cause follows.
@@ -90,7 +93,7 @@ impl Told {
         match self.number {
             0 => Ok(()),
             number => {
-                Err(Refusal { number: u8::try_from(number).expect("refusals are numbered 1 to 13"), place: self.place })
+                Err(Refusal { number: u8::try_from(number).expect("refusals are numbered 1 to 15"), place: self.place })
             }
         }
     }

@@ -53,6 +53,7 @@ fn c_type(name: &str) -> String {
         "size_t" => "usize".into(),
         "int32_t" => "i32".into(),
         "uint8_t" => "u8".into(),
+        "uint16_t" => "u16".into(),
         _ => {
             let words = name.strip_prefix("sagivelume_").unwrap_or_else(|| panic!("{name}")).split('_');
             words.map(|word| word[..1].to_uppercase() + &word[1..]).collect()
@@ -114,7 +115,6 @@ fn functions_are_those_of_the_boundary() {
     let exported: Vec<Declared> =
         all_between(&boundary, "extern \"C\" fn ", "\n    ensures").into_iter().map(function).collect();
     assert_eq!(exported.len(), boundary.matches("#[no_mangle]").count());
-    assert_eq!(exported.len(), 14);
 
     assert_eq!(c_functions(&file("user/include/sagivelume.h")), exported);
 

@@ -2,7 +2,7 @@
 
 use sagivelume::{ask, open_record, read_record, write_record};
 use sagivelume::{day_change, edges, finished, join, stopped, Column, Finished, LowHigh, Reading, Stopped, Summary};
-use sagivelume::{level, make, turn_back, Refusal, GAP};
+use sagivelume::{level, make, rebuild, turn_back, Refusal, GAP};
 
 fn refused<T>(number: u8, place: usize) -> Result<T, Refusal> {
     Err(Refusal { number, place })
@@ -70,6 +70,7 @@ fn empty_buffers_are_lent_like_any_other() {
     for (n, number) in [(0, 1), (1, 3), (16_384, 3), (usize::MAX, 1)] {
         assert_eq!(make(n, &[], &mut [], &mut []), refused(number, 0));
         assert_eq!(turn_back(n, &[], &[], &mut []), refused(number, 0));
+        assert_eq!(rebuild(n, &[], &[], 0, &mut []), refused(number, 0));
         assert_eq!(level(n, 0, &[]), []);
         assert_eq!(write_record(n, &[], &[], &mut []), refused(number, 0));
         assert_eq!(stopped(n, &[], &[], WHOLE_HOUR, 0), refused(number, 0));
@@ -79,6 +80,45 @@ fn empty_buffers_are_lent_like_any_other() {
     }
     assert_eq!(read_record(&[], &mut [], &mut []), refused(8, 0));
     assert_eq!(open_record(&[]), refused(8, 0));
+}
+
+/// A log of these counts with its start, all hours recorded but those that come out as gaps, is rebuilt to these hours.
+fn is_rebuilt(counts: &[u16], start: i32, expected: &[i32]) {
+    let flags: Vec<u8> = expected.iter().map(|&held| u8::from(held != GAP)).collect();
+    let mut hours = vec![77; counts.len()];
+    assert_eq!(rebuild(counts.len(), counts, &flags, start, &mut hours), Ok(()));
+    assert_eq!(hours, expected);
+}
+
+#[test]
+fn logs_of_the_old_scales() {
+    is_rebuilt(&[65_530, 4], 65_530, &[65_530, 65_540]);
+    is_rebuilt(&[4, 65_530], 65_540, &[65_540, 65_530]);
+    is_rebuilt(&[0, 32_768], 0, &[0, -32_768]);
+    is_rebuilt(&[0, 32_767], 0, &[0, 32_767]);
+    is_rebuilt(&[0, 32_768, 0], 0, &[0, GAP, 0]);
+    is_rebuilt(&[65_535, 0], -1, &[-1, 0]);
+    for start in [0, i32::MIN, i32::MAX] {
+        is_rebuilt(&[1, 2], start, &[GAP, GAP]);
+    }
+
+    // What lies beyond n is not looked at, and stays.
+    let mut hours = [77; 3];
+    assert_eq!(rebuild(1, &[5, 6], &[1, 9, 9], 5, &mut hours), Ok(()));
+    assert_eq!(hours, [5, 77, 77]);
+}
+
+#[test]
+fn a_log_that_is_refused_is_not_rebuilt() {
+    let mut hours = [77; 3];
+    let counts = [16_960, 16_961, 16_960];
+    assert_eq!(rebuild(3, &counts, &[1, 1, 1], 1_000_000, &mut hours), refused(2, 1));
+    assert_eq!(rebuild(1, &[16_961], &[1], 1_000_001, &mut hours), refused(2, 0));
+    assert_eq!(rebuild(3, &counts, &[1, 1, 1], 1_000_001, &mut hours), refused(15, 0));
+    assert_eq!(rebuild(3, &counts, &[1, 1, 2], 1_000_001, &mut hours), refused(14, 2));
+    assert_eq!(rebuild(3, &counts, &[1, 2], 1_000_001, &mut hours), refused(3, 0));
+    assert_eq!(rebuild(0, &counts, &[2], 1_000_001, &mut hours), refused(1, 0));
+    assert_eq!(hours, [77; 3]);
 }
 
 #[test]

@@ -17,9 +17,10 @@ fn refusals(text: &str, call: &str) -> Vec<u8> {
 }
 
 /// The calls that refuse, each with the list of its checks in the definitions of om3.
-const CHECKED: [(&str, &str); 10] = [
+const CHECKED: [(&str, &str); 11] = [
     ("make", "makingChecks"),
     ("turn_back", "turningBackChecks"),
+    ("rebuild", "rebuildingChecks"),
     ("write_record", "writingChecks"),
     ("read_record", "unpackingChecks"),
     ("open_record", "openingChecks"),
@@ -34,7 +35,7 @@ const CHECKED: [(&str, &str); 10] = [
 fn refused_by(word: &str) -> Option<u8> {
     Some(match word {
         "checkHours" => 1,
-        "checkReadings" => 2,
+        "checkReadings" | "checkWeights" => 2,
         "checkRoom" => 3,
         "examineTable" | "examineColumn" => 4,
         "checkWindow" | "checkDay" => 5,
@@ -45,13 +46,15 @@ fn refused_by(word: &str) -> Option<u8> {
         "checkLength" => 10,
         "checkAfter" => 11,
         "checkPlace" => 13,
+        "checkFlags" => 14,
+        "checkStart" => 15,
         _ => return None,
     })
 }
 
 #[test]
 fn refusals_are_in_the_order_of_the_definitions() {
-    let files = ["Calls", "RecordCalls", "Columns", "Stopped", "Finished", "Days"];
+    let files = ["Calls", "OldLog", "RecordCalls", "Columns", "Stopped", "Finished", "Days"];
     let definitions = files.map(|name| file(&format!("crates/om3/specs/{name}.antt"))).concat();
     let boundary = file("crates/sagivelume/src/lib.rt");
     let header = file("user/include/sagivelume.h");
@@ -103,7 +106,7 @@ fn refusals_are_those_of_the_store() {
         .map(|row| row.split_once(" => ").expect("a number"))
         .map(|(name, number)| [constant(name.trim_end_matches("(_)")), number.into()])
         .collect();
-    assert_eq!(of_store.len(), 13);
+    assert_eq!(of_store.len(), 15);
 
     let header = file("user/include/sagivelume.h");
     let listed = listed(&header);

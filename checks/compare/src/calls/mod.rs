@@ -163,6 +163,7 @@ kinds! {
     record_bytes RecordBytes sagivelume_record_bytes
     make Make sagivelume_make
     turn_back TurnBack sagivelume_turn_back
+    rebuild Rebuild sagivelume_rebuild
     level Level sagivelume_level
     write_record WriteRecord sagivelume_write_record
     read_record ReadRecord sagivelume_read_record
@@ -179,6 +180,8 @@ kinds! {
 #[cfg(test)]
 mod tests {
     use std::collections::BTreeSet;
+    use std::fs;
+    use std::path::Path;
 
     use sagivelume::Refusal;
     use second::answer::answer;
@@ -203,11 +206,9 @@ mod tests {
     /// A call of the boundary that is left out here, or in the program of the vectors, does not go unnoticed.
     #[test]
     fn every_call_of_the_boundary_is_compared() {
-        let program = [
-            include_str!("../../../../crates/vectors/src/table_calls.rt"),
-            include_str!("../../../../crates/vectors/src/record_calls.rt"),
-            include_str!("../../../../crates/vectors/src/column_calls.rt"),
-        ];
+        let sources = Path::new(env!("CARGO_MANIFEST_DIR")).join("../../crates/vectors/src");
+        let files = fs::read_dir(sources).expect("the program of the vectors").map(|file| file.expect("a file").path());
+        let program: Vec<String> = files.map(|file| fs::read_to_string(file).expect("a source")).collect();
         let boundary = include_str!("../../../../crates/sagivelume/src/lib.rt");
         let mut exported = 0;
         for after in boundary.split("extern \"C\" fn ").skip(1) {

@@ -11,7 +11,7 @@ pub fn file(path: &str) -> String {
 
 /// The modules of this crate whose calls and structs are the boundary's.
 pub fn modules() -> String {
-    let names = ["refusal", "sizes", "table", "record", "column", "finished"];
+    let names = ["refusal", "sizes", "table", "old_log", "record", "column", "finished"];
     names.map(|name| file(&format!("user/rust/src/{name}.rs"))).concat()
 }
 

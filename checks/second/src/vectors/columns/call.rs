@@ -1,8 +1,8 @@
 //! A call on a column as text, and its answer.
 //!
-//! `8 n a b w k` is the edges of a column, `9 n a b w k d coefficients codes` its answer at a depth,
-//! `10 n a b w k coefficients codes` its finished answer, `11 left right` joins two answers,
-//! `12 n day coefficients codes` is the change of a day.
+//! `21 n a b w k` is the edges of a column, `22 n a b w k d coefficients codes` its answer at a depth,
+//! `23 n a b w k coefficients codes` its finished answer, `24 left right` joins two answers,
+//! `25 n day coefficients codes` is the change of a day.
 //!
 //! An answer without its count is found, which is 0 for "no reading", the hours of the first reading and of the last,
 //! their grams, low and high; it begins a line. Without a reading the others are 0 in what is answered and anything in
@@ -120,20 +120,20 @@ fn asking(kind: u64, n: u64, Column { a, b, w, k }: Column) -> Vec<String> {
 impl Vector for Call {
     fn lines(&self) -> Vec<u8> {
         match self {
-            Call::Edges { n, column } => lines(&[asking(8, *n, *column)]),
+            Call::Edges { n, column } => lines(&[asking(21, *n, *column)]),
             Call::Stopped { table, column, depth } => {
                 let [coefficients, codes] = table.parts();
-                let head = [asking(9, table.n, *column), numbers(&[*depth as i64])].concat();
+                let head = [asking(22, table.n, *column), numbers(&[*depth as i64])].concat();
                 lines(&[head, coefficients, codes])
             }
             Call::Finished { table, column } => {
                 let [coefficients, codes] = table.parts();
-                lines(&[asking(10, table.n, *column), coefficients, codes])
+                lines(&[asking(23, table.n, *column), coefficients, codes])
             }
-            Call::Join { left, right } => lines(&[numbers(&[11]), left.numbers(), right.numbers()]),
+            Call::Join { left, right } => lines(&[numbers(&[24]), left.numbers(), right.numbers()]),
             Call::DayChange { table, day } => {
                 let [coefficients, codes] = table.parts();
-                lines(&[numbers(&[12, table.n as i64, *day as i64]), coefficients, codes])
+                lines(&[numbers(&[25, table.n as i64, *day as i64]), coefficients, codes])
             }
         }
     }

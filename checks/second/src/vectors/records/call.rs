@@ -1,7 +1,7 @@
 //! A call on a record as text, and its answer.
 //!
-//! `4 n coefficients codes record` is writing, `5 record coefficients codes` is reading, `6 record` is opening,
-//! `7 P place record` asks a view, `13 place record` opens a record and asks it.
+//! `11 n coefficients codes record` is writing, `12 record coefficients codes` is reading, `13 record` is opening,
+//! `14 P place record` asks a view, `15 place record` opens a record and asks it.
 
 use crate::record::{ask, ask_view, open, read_record, write_record};
 use crate::vectors::{before, bytes_before, content, head, lent, lines, numbers, outcome, Vector};
@@ -56,14 +56,14 @@ impl Vector for Call {
     fn lines(&self) -> Vec<u8> {
         match self {
             Call::Write { n, coefficients, codes, record } => {
-                lines(&[numbers(&[4, *n as i64]), lent(coefficients), lent(codes), lent(record)])
+                lines(&[numbers(&[11, *n as i64]), lent(coefficients), lent(codes), lent(record)])
             }
             Call::Read { record, coefficients, codes } => {
-                lines(&[numbers(&[5]), lent(record), lent(coefficients), lent(codes)])
+                lines(&[numbers(&[12]), lent(record), lent(coefficients), lent(codes)])
             }
-            Call::Open { record } => lines(&[numbers(&[6]), lent(record)]),
-            Call::AskView { p, place, record } => lines(&[numbers(&[7, *p as i64, *place as i64]), lent(record)]),
-            Call::Ask { place, record } => lines(&[numbers(&[13, *place as i64]), lent(record)]),
+            Call::Open { record } => lines(&[numbers(&[13]), lent(record)]),
+            Call::AskView { p, place, record } => lines(&[numbers(&[14, *p as i64, *place as i64]), lent(record)]),
+            Call::Ask { place, record } => lines(&[numbers(&[15, *place as i64]), lent(record)]),
         }
     }
 

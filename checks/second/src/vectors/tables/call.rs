@@ -1,7 +1,7 @@
 //! A call on a table as text, and its answer.
 //!
 //! `1 n readings coefficients codes` is making, `2 n coefficients codes hours` is turning back, `3 n j coefficients` is
-//! one level, whose answer is the first place of the stretch and its length. `14 n` asks for the places of a table and
+//! one level, whose answer is the first place of the stretch and its length. `4 n` asks for the places of a table and
 //! for the bytes of its record; the answer is these two numbers.
 
 use crate::hours::places;
@@ -60,7 +60,7 @@ impl Vector for Call {
                 lines(&[numbers(&[2, *n as i64]), lent(coefficients), lent(codes), lent(hours)])
             }
             Call::Level { n, j, coefficients } => lines(&[numbers(&[3, *n as i64, *j as i64]), lent(coefficients)]),
-            Call::Sizes(n) => lines(&[numbers(&[14, *n as i64])]),
+            Call::Sizes(n) => lines(&[numbers(&[4, *n as i64])]),
         }
     }
 

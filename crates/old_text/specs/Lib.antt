@@ -1,0 +1,2 @@
+-- What deciding about an old log's text and printing it promise.
+pub mod RebuiltText
