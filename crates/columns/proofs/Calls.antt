@@ -1,9 +1,9 @@
 -- Each answer of the calls: the refusal of the check that decides, or the column's own answer. Assumes nothing.
-use Rattle.kit.proofs.{_≡_, List, [], _∷_, ℕ, ℤ}
+use Rattle.kit.proofs.{_≡_, sym, _∙_, List, [], _∷_, ℕ, ℤ}
 use Rattle.words.specs.declared.{Column.Column, Edges.Edges, Finished.Finished, Refusal.Refusal, Stopped.Stopped}
 use Rattle.om3.specs.Document.{levels, Table, lent, Check, passes, refuses, inOrder, answerBy, checkDepth, column}
 use Rattle.om3.specs.Document.{openedNodes, examineColumn, stopped, answer, finishedNodes, finished}
-use Rattle.om3.proofs.Examined.{then-passes}
+use Rattle.laws.proofs.Examined.{then-passes}
 use Rattle.columns.specs.Drawing.{StoppedAt, FinishedOver}
 use Rattle.sizes.specs.Lent.{lentCheck}
 use Rattle.sizes.proofs.Lent.{lent-refuses}
@@ -30,15 +30,17 @@ module _ (n : ℕ) (cs : List ℤ) (ks : List ℕ) (a b w k : ℕ) where
   finished-lent why e = rw (lent-refuses n T _ why e)
 
   module _ (lends : lentCheck n T ≡ passes) where
-    pub finished-window : (why : Refusal) → Edges.Refused why ≡ told → Finished.Refused why ≡ finished n T a b w k
+    pub finished-window : {e : Edges} {why : Refusal} → e ≡ told → e ≡ Edges.Refused why
+        → Finished.Refused why ≡ finished n T a b w k
     unfolding finished
-    finished-window why e = rw (checking.window-refused n T a b w k (four ∷ []) lends why e)
+    finished-window {why = why} tells is =
+        rw (checking.window-refused n T a b w k (four ∷ []) lends why (sym is ∙ tells))
 
-    pub finished-column : (x : Column) → Edges.Hours x ≡ told → (r : Finished) → FinishedOver n cs ks x r
-        → r ≡ finished n T a b w k
+    pub finished-column : {e : Edges} {x : Column} → e ≡ told → e ≡ Edges.Hours x → {r : Finished}
+        → FinishedOver n cs ks x r → r ≡ finished n T a b w k
     unfolding finished inOrder
-    finished-column x e r F =
-        let h = edges-passed (windowCheck n a b w k) (column a b w k) x e in
+    finished-column {x = x} tells is F =
+        let h = edges-passed (windowCheck n a b w k) (column a b w k) x (sym is ∙ tells) in
         rw (checking.window-passed n T a b w k (four ∷ []) lends (h .0), then-passes four) (rw (h .1) at (F .answer))
 
   -- A column stopped at depth d.
@@ -51,14 +53,16 @@ module _ (n : ℕ) (cs : List ℤ) (ks : List ℕ) (a b w k : ℕ) where
     stopped-lent why e = rw (lent-refuses n T _ why e)
 
     module _ (lends : lentCheck n T ≡ passes) where
-      pub stopped-window : (why : Refusal) → Edges.Refused why ≡ told → Stopped.Refused why ≡ stopped n T a b w k d
+      pub stopped-window : {e : Edges} {why : Refusal} → e ≡ told → e ≡ Edges.Refused why
+          → Stopped.Refused why ≡ stopped n T a b w k d
       unfolding stopped
-      stopped-window why e = rw (checking.window-refused n T a b w k (checkDepth n d ∷ examined ∷ []) lends why e)
+      stopped-window {why = why} tells is =
+          rw (checking.window-refused n T a b w k (checkDepth n d ∷ examined ∷ []) lends why (sym is ∙ tells))
 
-      pub stopped-column : (x : Column) → Edges.Hours x ≡ told → (r : Stopped) → StoppedAt n cs ks x d r
-          → r ≡ stopped n T a b w k d
+      pub stopped-column : {e : Edges} {x : Column} → e ≡ told → e ≡ Edges.Hours x → {r : Stopped}
+          → StoppedAt n cs ks x d r → r ≡ stopped n T a b w k d
       unfolding stopped
-      stopped-column x e r S =
-          let h = edges-passed (windowCheck n a b w k) (column a b w k) x e in
+      stopped-column {x = x} tells is S =
+          let h = edges-passed (windowCheck n a b w k) (column a b w k) x (sym is ∙ tells) in
           rw (checking.window-passed n T a b w k (checkDepth n d ∷ examined ∷ []) lends (h .0))
           (rw (h .1) at (S .answer))

@@ -3,7 +3,7 @@ use Rattle.kit.proofs.{_≡_, _∙_, List, [], _∷_, ℕ}
 use Rattle.words.specs.declared.{Refusal.Refusal, Edges.Edges}
 use Rattle.om3.specs.Document.{Table, Check, passes, refuses, andThen, inOrder, checkHours, checkRoom, tableShort}
 use Rattle.om3.specs.Document.{checkWindow, checkColumn, column}
-use Rattle.om3.proofs.Examined.{in-order-append}
+use Rattle.laws.proofs.Examined.{in-order-append}
 use Rattle.sizes.specs.Lent.{lentCheck}
 use Rattle.sizes.proofs.Lent.{lent-passes}
 use Rattle.windows.specs.Windows.{windowCheck}

@@ -3,7 +3,7 @@ use Rattle.kit.proofs.{_≡_, ap, _∙_, ⊎-elim, ℕ, _+_, _-_, _/_, _^_, _�
 use Rattle.kit.proofs.{pow-lt, pow-add}
 use Rattle.words.specs.{largestLevel}
 use Rattle.om3.specs.Document.{levels, P}
-use Rattle.om3.proofs.{Tests.below-or-not, Levels.levels-most}
+use Rattle.laws.proofs.{Tests.below-or-not, Levels.levels-most}
 
 module _ (n d : ℕ) where
   pub over-all : largestLevel < d → levels n < d

@@ -8,12 +8,13 @@ use Rattle.om3.specs.Document.{lastOf, levels, Node, InTree, number, Table, len
 use Rattle.om3.specs.Document.{answerBy, soundNode, examine, examineNode, examineNodes, examineRoot, openedNodes}
 use Rattle.om3.specs.Document.{countAt, rangeOver, examineColumn, nodesOf, firstWalk, lastWalk, insideNodes, walksFrom}
 use Rattle.om3.specs.Document.{answer, count, finishedNodes}
-use Rattle.om3.proofs.{Examined.then-assoc, Examined.in-order-append, Listed.All, NeverRefused.last-in}
-use Rattle.om3.proofs.{WithoutHours.none-inside, WithoutHours.none-count}
-use Rattle.om3.proofs.KeptNodes.{NonEmpty, inside-inner, inside-non-empty}
-use Rattle.walking.specs.{Seen.innerOver, Seen.tableSeen, Visiting.StopsAt, Visiting.TableVisited}
-use Rattle.walking.specs.Nodes.{reachedOf, At, Below}
-use Rattle.walking.specs.declared.{Inner.Inner, Reached.Reached, Seen.Seen, Visited.Visited}
+use Rattle.laws.proofs.{Examined.then-assoc, Examined.in-order-append, Listed.All, NeverRefused.last-in}
+use Rattle.laws.proofs.{WithoutHours.none-inside, WithoutHours.none-count}
+use Rattle.laws.proofs.KeptNodes.{NonEmpty, inside-inner, inside-non-empty}
+use Rattle.stepping.specs.Nodes.{reachedOf, At, Below, StopsAt}
+use Rattle.stepping.specs.declared.Reached.{Reached}
+use Rattle.sight.specs.{Seen.innerOver, Seen.tableSeen, declared.Inner.Inner, declared.Seen.Seen}
+use Rattle.visiting.specs.{Visiting.TableVisited, declared.Visited.Visited}
 use Rattle.columns.specs.Drawing.{Answers, walksCheck, foundOf, FoundFrom, finishedAnswer, FinishedOver}
 
 pub not-answered : {why : Refusal} {a : Answer} {m : ℕ} → Finished.Refused why ≡ Finished.Answered a m → ⊥

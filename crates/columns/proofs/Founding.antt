@@ -2,8 +2,9 @@
 use Rattle.kit.proofs.{_≡_, refl, sym, List, ℕ, _+_, _-_, arith, ℤ}
 use Rattle.words.specs.{lowOf, highOf, declared.Refusal.the-variants.Unsound}
 use Rattle.words.specs.declared.{Answer.Answer, Finished.Finished, NodeId.NodeId, Range.Range, Reading.Reading}
+use Rattle.stepping.specs.declared.Reached.{Reached}
 use Rattle.walking.specs.Walking.{WalkedFrom}
-use Rattle.walking.specs.declared.{Walked.Walked, Reached.Reached, Towards.Towards}
+use Rattle.walking.specs.declared.{Walked.Walked, Towards.Towards}
 use Rattle.columns.specs.Drawing.{Answers, FoundFrom}
 use Rattle.columns.proofs.Finishing.{refused-small}
 

@@ -4,10 +4,11 @@ use Rattle.kit.proofs.{le-ltb}
 use Rattle.words.specs.declared.{Column.Column, NodeId.NodeId, Range.the-variants.Empty, Refusal.the-variants.Unsound}
 use Rattle.words.specs.declared.{Refusal.the-variants.TooDeep, Stopped.Stopped}
 use Rattle.om3.specs.Document.{levels, Node, Table, lent, inOrder, openedNodes, countAt, rangeOver, examineColumn}
-use Rattle.om3.proofs.{Examined.then-passes}
-use Rattle.om3.proofs.WithoutHours.{none-outer, none-inner, none-count}
-use Rattle.walking.specs.{Seen.innerOver, Visiting.StopsAt, Visiting.TableVisited}
-use Rattle.walking.specs.declared.{Seen.Seen, Visited.Visited}
+use Rattle.laws.proofs.{Examined.then-passes}
+use Rattle.laws.proofs.WithoutHours.{none-outer, none-inner, none-count}
+use Rattle.stepping.specs.Nodes.{StopsAt}
+use Rattle.sight.specs.{Seen.innerOver, declared.Seen.Seen}
+use Rattle.visiting.specs.{Visiting.TableVisited, declared.Visited.Visited}
 use Rattle.columns.specs.Drawing.{innerRange, StoppedOver, StoppedAt}
 
 -- The range of inner nodes is the range over them.

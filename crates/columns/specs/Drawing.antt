@@ -19,8 +19,9 @@ use Rattle.words.specs.declared.{Stopped.Stopped}
 use Rattle.om3.specs.Document.{levels, Node, Table, lent, Check, andThen, inOrder, answerBy, examineNodes, checkDepth}
 use Rattle.om3.specs.Document.{openedNodes, countAt, outer, inner, examineColumn, nodesOf, endOf, firstWalk, lastWalk}
 use Rattle.om3.specs.Document.{readingAt, answer, count, finishedNodes}
-use Rattle.walking.specs.{Nodes.At, Walking.Small}
-use Rattle.walking.specs.declared.{Inner.Inner, Reached.Reached}
+use Rattle.stepping.specs.{Nodes.At, declared.Reached.Reached}
+use Rattle.sight.specs.declared.Inner.{Inner}
+use Rattle.walking.specs.Walking.{Small}
 
 -- No nodes: the empty range. [columns 11]
 abbrev pub innerRange : Inner → Range

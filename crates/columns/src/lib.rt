@@ -1,9 +1,9 @@
 // What the tablet draws: a column of a window, stopped at a depth or finished.
+use sight::Inner;
 use sizes::Lending;
-use walking::Inner;
-use walking::Reached;
+use stepping::Reached;
+use visiting::Visited;
 use walking::Towards;
-use walking::Visited;
 use walking::Walked;
 use words::Answer;
 use words::Column;
@@ -22,7 +22,7 @@ ghost use Rattle.om3.specs.Table.{lent};
 ghost use Rattle.om3.specs.Stopped.{stopped as stoppedOf};
 ghost use Rattle.om3.specs.Finished.{finished as finishedOf};
 ghost use Rattle.sizes.specs.Lent.{TableLent};
-ghost use Rattle.walking.specs.Nodes.{LentTo, Below};
+ghost use Rattle.stepping.specs.Nodes.{LentTo, Below};
 ghost use Rattle.columns.specs.Drawing.{innerRange};
 ghost use Rattle.columns.specs.Drawing.{StoppedOver, StoppedAt, FoundFrom, FinishedOver};
 
@@ -74,7 +74,7 @@ pub fn stopped_over(
             count: NO_NODES,
         };
     }
-    match walking::visit_table(n, p, coefficients, codes, x, stop) {
+    match visiting::visit_table(n, p, coefficients, codes, x, stop) {
         Visited::Unsound(i) => Stopped::Refused(Refusal::Unsound(i)),
         Visited::Through(seen) => {
             let outer = seen.outer;
@@ -190,7 +190,7 @@ pub fn finished_over(n: usize, p: usize, coefficients: &[i32], codes: &[u8], x: 
             count: NO_NODES,
         };
     }
-    match walking::visit_table(n, p, coefficients, codes, x, 1) {
+    match visiting::visit_table(n, p, coefficients, codes, x, 1) {
         Visited::Unsound(i) => Finished::Refused(Refusal::Unsound(i)),
         Visited::Through(seen) => {
             let nodes = seen.inner;

@@ -5,7 +5,7 @@ use Rattle.words.specs.declared.{Answer.Answer, Column.Column, DayChange.DayCha
 use Rattle.om3.specs.Document.{levels, Table, lent, Check, passes, refuses, andThen, inOrder, answerBy, checkHours}
 use Rattle.om3.specs.Document.{checkRoom, tableShort, checkDay, examineColumn, answer, finishedNodes, day, changeOf}
 use Rattle.om3.specs.Document.{dayChange}
-use Rattle.om3.proofs.Examined.{then-passes}
+use Rattle.laws.proofs.Examined.{then-passes}
 use Rattle.sizes.specs.Lent.{lentCheck}
 use Rattle.sizes.proofs.Lent.{lent-refuses, lent-passes}
 use Rattle.columns.specs.Drawing.{finishedAnswer, FinishedOver}

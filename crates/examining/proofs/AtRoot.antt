@@ -7,7 +7,7 @@ use Rattle.words.specs.declared.Range.{Range}
 use Rattle.words.specs.{Readings}
 use Rattle.om3.specs.Document.{levels, P, root, Table, lent, rootRange, reachedAt, reached, inOrder, soundRootValues}
 use Rattle.om3.specs.Document.{examine, examineTable}
-use Rattle.om3.proofs.{Levels.P-even, SoundDetails.root-values}
+use Rattle.laws.proofs.{Levels.P-even, SoundDetails.root-values}
 use Rattle.node.proofs.Located.{root-located}
 use Rattle.node.specs.declared.Root.{Root}
 use Rattle.node.specs.Steps.{rootOf}

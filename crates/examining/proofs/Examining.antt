@@ -8,11 +8,11 @@ use Rattle.om3.specs.Document.{hour, Node, number, left, right, start, Table, l
 use Rattle.om3.specs.Document.{secondOfPair, reached, Check, andThen, inOrder, soundDetails, soundCode, gapFrom}
 use Rattle.om3.specs.Document.{soundNode, nodesBelow, examineNode, examineNodes}
 use Rattle.node.specs.{Located.Located, Steps.halvesOf, Steps.pairOf}
-use Rattle.om3.proofs.Nodes.{pair-yes, pair-no, pair-half, start-hour}
+use Rattle.laws.proofs.Nodes.{pair-yes, pair-no, pair-half, start-hour}
 use Rattle.node.proofs.Located.{above-hours, above-pairs, at-pair, pair-width, left-located, right-located}
 use Rattle.node.proofs.Told.{back}
-use Rattle.om3.proofs.{Reached.reached-left, Reached.reached-right, SoundDetails.details, Examined.in-order-append}
-use Rattle.om3.proofs.{Examined.then-passes}
+use Rattle.laws.proofs.{Reached.reached-left, Reached.reached-right, SoundDetails.details, Examined.in-order-append}
+use Rattle.laws.proofs.{Examined.then-passes}
 use Rattle.node.specs.declared.Halves.{Halves}
 use Rattle.examining.specs.declared.Verdict.{Verdict}
 use Rattle.examining.specs.Examining.{checkOf, pairAt, Examined, PairExamined, PairsExamined}

@@ -1,10 +1,10 @@
 -- A packed table is examined as the table unpacked from it: each coefficient that is read from its three bytes is the
 -- one that stands at its place there. Assumes nothing.
-use Rattle.kit.proofs.{_≡_, sym, List, ℕ, _+_, _*_, _/_, _^_, _≤_, _<_, arith, ℤ, pos, length, getD, mag, w64, Fits}
+use Rattle.kit.proofs.{_≡_, List, ℕ, _+_, _*_, _/_, _^_, _≤_, _<_, arith, ℤ, pos, length, getD, mag, w64, Fits}
 use Rattle.signed.proofs.{reads-back}
 use Rattle.words.specs.declared.{NodeId.NodeId, Range.Range}
-use Rattle.om3.proofs.Lists.{map-up-length, map-up-from-0}
-use Rattle.node.specs.{declared.Halves.Halves, declared.Root.Root, Steps.halvesOf, Steps.rootOf}
+use Rattle.laws.proofs.Lists.{map-up-length, map-up-from-0}
+use Rattle.node.specs.{declared.Halves.Halves, Steps.halvesOf}
 use Rattle.node.proofs.{Rooms.halved, Rooms.both-places, Told.back}
 use Rattle.examining.specs.declared.Verdict.{Verdict}
 use Rattle.examining.specs.Examining.{Examined}
@@ -30,14 +30,6 @@ module _ (bs : List ℕ) where
         let d = unpacked-at (2 * i) (omega arith) in
         let f = unpacked-at (2 * i + 1) (omega arith) in
         rw (d, f, ← p, ← q) (rw (reads-back x xm, reads-back y ym) at e)
-
-    -- The step to node 1, for root values read from theirs.
-    pub root-values-read : 2 ≤ length bs / 3 → x ≡ coefficientFrom bs 0 → y ≡ coefficientFrom bs 1 → {r : Root}
-        → r ≡ rootOf x y → rootOf (getD (unpacked bs) 0 (pos 0)) (getD (unpacked bs) 1 (pos 0)) ≡ r
-    root-values-read room p q e =
-        let d = unpacked-at 0 (omega arith) in
-        let f = unpacked-at 1 (omega arith) in
-        rw (d, f, ← p, ← q) (sym e)
 
 -- A node of eight hours or more: what its halves cover, and that their numbers fit.
 module _ (w : ℕ) where

@@ -38,3 +38,6 @@ pub use mir.Facts.{toZ-pos, toZ-ofZ}
 -- What tactics reason with.
 pub use native.Mathlib.Omega.{arith}
 pub use borrow.Author.Needs.{needs}
+-- Proofs by hand.
+pub mod ByHand
+pub mod Walk

@@ -4,7 +4,7 @@ use Rattle.kit.proofs.{ℤ, length, take, drop, leb, pow-mono, pow-pos, lt-ltb,
 use Rattle.words.specs.{largestLevel, largestHours}
 use Rattle.words.specs.declared.Stretch.{Stretch}
 use Rattle.om3.specs.Document.{badHours, levels, P, hasLevel, levelStretch, placesOf}
-use Rattle.om3.proofs.{Tests.below-or-not, Levels.levels-most, Answers.stretch-within}
+use Rattle.laws.proofs.{Tests.below-or-not, Levels.levels-most, Answers.stretch-within}
 
 abbrev none : Stretch
 none = record { start = 0; length = 0 }

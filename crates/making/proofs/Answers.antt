@@ -1,15 +1,14 @@
 -- What `make` promises at each of its answers: the checks in their order, and the whole table. Assumes nothing.
 use Rattle.kit.proofs.{_≡_, _∙_, true, false, _||_, List, ℕ, _+_, _*_, _/_, _^_, _≤_, _<_, arith, ℤ, length, set, mag}
 use Rattle.kit.proofs.{lt-ltb, le-ltb}
-use Rattle.words.specs.{lowOf, highOf}
-use Rattle.words.specs.declared.{Range.Range, Refusal.Refusal, Refusal.the-variants.BadHours}
-use Rattle.words.specs.declared.{Refusal.the-variants.ShortBuffer, Taking.Taking}
+use Rattle.words.specs.{lowOf, highOf, declared.Range.Range, declared.Refusal.Refusal, declared.Taking.Taking}
+use Rattle.words.specs.declared.Refusal.the-variants.{BadHours, ShortBuffer}
 use Rattle.om3.specs.Document.{badHours, levels, P, root, Table, lent, refuses, inOrder, answerBy, short, tableShort}
 use Rattle.om3.specs.Document.{checkReadings, makingChecks}
 use Rattle.sizes.specs.Lent.{TableLent}
 use Rattle.signed.proofs.{reads-back}
-use Rattle.om3.proofs.Levels.{levels-some, 2≤P, P-even}
-use Rattle.om3.proofs.Taken.{taken-passes, refused-refuses, making-decided}
+use Rattle.laws.proofs.Levels.{levels-some, 2≤P, P-even}
+use Rattle.laws.proofs.Taken.{taken-passes, refused-refuses, making-decided}
 use Rattle.node.proofs.{Located.root-located, Told.back}
 use Rattle.making.specs.Making.{Filled, Tabled, Made}
 use Rattle.making.proofs.{Details.coefficients-made, Codes.codes-made}
@@ -55,18 +54,12 @@ module _ (n : ℕ) (s : List ℤ) (cs : List ℤ) (ks : List ℕ) where
   refused why e = record { answer = rw e; coefficients = rw e; codes = rw e }
 
   pub bad-hours : badHours n ≡ true → Made n s cs ks cs ks (Taking.Refused BadHours)
-  bad-hours b = refused BadHours checks
-    where
-      checks : inOrder (makingChecks n s T) ≡ refuses BadHours
-      checks = unfold inOrder in rw b
+  bad-hours b = refused BadHours (unfold inOrder in rw b)
 
   module _ (good : badHours n ≡ false) where
     -- Any of the three buffers too short.
     no-room : (short (length s) n || tableShort n T) ≡ true → Made n s cs ks cs ks (Taking.Refused ShortBuffer)
-    no-room e = refused ShortBuffer checks
-      where
-        checks : inOrder (makingChecks n s T) ≡ refuses ShortBuffer
-        checks = unfold inOrder in rw (good, e)
+    no-room e = refused ShortBuffer (unfold inOrder in rw (good, e))
 
     pub few-readings : length s < n → Made n s cs ks cs ks (Taking.Refused ShortBuffer)
     few-readings h = no-room (rw (lt-ltb (length s) n h))

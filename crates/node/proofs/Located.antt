@@ -2,9 +2,9 @@
 -- tree. Assumes nothing.
 use Rattle.kit.proofs.{_≡_, refl, _∙_, ⊎-elim, ℕ, suc, _+_, _-_, _*_, _/_, _^_, _≤_, _<_, arith, pow-mono}
 use Rattle.om3.specs.Document.{Node, root, left, right, width}
-use Rattle.om3.proofs.Tests.{below-or-not}
-use Rattle.om3.proofs.Nodes.{start-root, width-root, width-half, width-right, start-left, start-right}
-use Rattle.om3.proofs.Nodes.{number-left, number-right, left-in, right-in}
+use Rattle.laws.proofs.Tests.{below-or-not}
+use Rattle.laws.proofs.Nodes.{start-root, width-root, width-half, width-right, start-left, start-right}
+use Rattle.laws.proofs.Nodes.{number-left, number-right, left-in, right-in}
 use Rattle.node.specs.Located.{Located}
 
 pub root-located : (l : ℕ) → Located l root 1 0 (2 ^ l)

@@ -1,8 +1,5 @@
 -- Why deciding about an old log's text and printing it meet their contracts, and that this is what is defined.
-pub mod Held
 pub mod LongerLogs
-pub mod Counting
-pub mod Written
 pub mod HourLines
 pub mod Pieces
 pub mod Deciding

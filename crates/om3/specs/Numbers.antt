@@ -9,6 +9,7 @@
 --   unmarked          numbers 11 and 12, and the sizes of the house record
 --   outside           worked examples of documents 003 and 004
 --   eight             the coefficients of eight hours, fourteen the bytes of a record, and damaged one
+--   morning, noon     answers of some of the seven hours
 --   further           where document 01 leaves room or an error comes easily
 --   printing          texts and what is printed for them
 use mathlib.Core.Path.{_≡_}
@@ -19,11 +20,15 @@ use lib.IntN.{ℤ, pos, negℤ}
 use lib.ListN.{replicate}
 use Rattle.words.specs.Constants.{gap}
 use Rattle.words.specs.Said.{taken}
+use Rattle.words.specs.declared.Reading.{Reading}
+use Rattle.words.specs.declared.Answer.{Answer}
+use Rattle.words.specs.declared.Answer.the-variants.{NoReading, Found}
+use Rattle.om3.specs.Series.{hour}
 use Rattle.om3.specs.Text.{ascii}
 use Rattle.om3.specs.Questions.{Question, Reply, replyTo, tableFrom}
 use Rattle.om3.specs.Questions.{tableFor, makingFor, turningFor, finishedFor, stoppedFor, dayFor, finishedIn}
 use Rattle.om3.specs.Questions.{edgesFor, levelFor, sizeFor, recordFor, writingFor, readingFor, openFor, askFor}
-use Rattle.om3.specs.Questions.{printFor, table, says, bytes}
+use Rattle.om3.specs.Questions.{joinFor, printFor, table, says, bytes}
 
 pub record Case : Type 0 where
   pub question : Question
@@ -150,6 +155,16 @@ late =
     g 5 ∷ g 5 ∷ g 2000002 ∷ g 2000002 ∷ gap ∷ gap ∷ g 2000002 ∷ g 2000002 ∷ gap ∷ gap ∷ gap ∷ gap ∷ gap ∷ gap
     ∷ g 2000001 ∷ g 2000001 ∷ []
 
+-- Of the printer's seven hours, the answers of 0 to 2 and of 3 and 4.
+abbrev at : (h grams : ℕ) → Reading
+at h grams = record { hour = hour h; grams = g grams }
+
+abbrev morning : Answer
+morning = Found (record { first = at 0 41200; last = at 1 41350; low = g 41200; high = g 41350 })
+
+abbrev noon : Answer
+noon = Found (record { first = at 3 40900; last = at 4 32760; low = g 32760; high = g 40900 })
+
 -- One hour of −500 grams: 14 bytes.
 abbrev pub fourteen : List ℕ
 fourteen = 0 ∷ 0 ∷ 0 ∷ 10 ∷ 1 ∷ 0 ∷ 1 ∷ 255 ∷ 254 ∷ 12 ∷ 255 ∷ 254 ∷ 12 ∷ 2 ∷ []
@@ -175,9 +190,13 @@ further =
     ∷ (finishedIn 8 eight (1 ∷ 9 ∷ 9 ∷ 1 ∷ []) 0 8 1 0 is shown 0 7 1 8 1 8 7)
     -- a reading at hour 12 of a series of 9 hours is found at its pair [sound 4]
     ∷ (turningFor 9 late (4 ∷ 4 ∷ 4 ∷ 4 ∷ 4 ∷ 4 ∷ 2 ∷ 4 ∷ []) is refusal 4 14)
-    -- level 1 of the printer's seven hours; there is no level 2 of details [level 1, 2]
+    -- level 1 of the printer's seven hours; there is no level 2 of details, however much is lent [level 1, 2]
     ∷ (levelFor 7 1 (tableFrom 7 seven .coefficients) is says (taken (g 300 ∷ g 450 ∷ g 2000001 ∷ g 2000001 ∷ [])))
-    ∷ (levelFor 7 2 (tableFrom 7 seven .coefficients) is says (taken []))
+    ∷ (levelFor 7 2 (tableFrom 7 seven .coefficients ++ replicate 8 (g 5)) is says (taken []))
+    -- the answers of hours 0 to 2 and of hours 3 and 4 joined; with no reading on one side [columns 19]
+    ∷ (joinFor morning noon is says (taken (pos 0 ∷ g 41200 ∷ pos 4 ∷ g 32760 ∷ g 32760 ∷ g 41350 ∷ [])))
+    ∷ (joinFor morning NoReading is says (taken (pos 0 ∷ g 41200 ∷ pos 1 ∷ g 41350 ∷ g 41200 ∷ g 41350 ∷ [])))
+    ∷ (joinFor NoReading noon is says (taken (pos 3 ∷ g 40900 ∷ pos 4 ∷ g 32760 ∷ g 32760 ∷ g 40900 ∷ [])))
     -- the house record byte by byte [record 1, 2, 3, 4, 5, 6]
     ∷ (recordFor 1 (-g 500 ∷ []) is bytes fourteen)
     ∷ (openFor fourteen is says (taken (pos 1 ∷ pos 2 ∷ [])))

@@ -7,9 +7,10 @@ use mathlib.Core.List.{List, [], _∷_}
 use Prim.Native.Nat.{ℕ}
 use lib.IntN.{ℤ, pos}
 use lib.ListN.{length, replicate}
-use Rattle.words.specs.Said.{Said, refused, taken, saidOfTaking}
+use Rattle.words.specs.Said.{Said, refused, taken, saidOfTaking, valuesOf}
 use Rattle.words.specs.Said.{saidOfFinished, saidOfStopped, saidOfEdges, saidOfDayChange}
 use Rattle.words.specs.Said.{saidOfWriting, saidOfUnpacking, saidOfOpening, saidOfAsking}
+use Rattle.words.specs.declared.Answer.{Answer}
 use Rattle.om3.specs.Series.{levels}
 use Rattle.om3.specs.Table.{Table, lent, tableOf}
 use Rattle.om3.specs.Checks.{inOrder, answerBy}
@@ -17,11 +18,8 @@ use Rattle.om3.specs.Calls.{making, turningBack}
 use Rattle.om3.specs.Level.{levelStretch, placesOf}
 use Rattle.om3.specs.Record.{recordLength, recordSize, recordOf}
 use Rattle.om3.specs.RecordCalls.{writing, unpacking, opening, askingView, asking}
-use Rattle.om3.specs.Columns.{edges}
-use Rattle.om3.specs.Stopped.{stopped}
-use Rattle.om3.specs.Finished.{finished}
-use Rattle.om3.specs.Days.{dayChange}
-use Rattle.om3.specs.Printed.{printed}
+use Rattle.om3.specs.{Columns.edges, Stopped.stopped, Finished.finished, Joined.joined, Days.dayChange}
+use Rattle.om3.specs.{Printed.printed}
 use Rattle.om3.specs.OldLog.{rebuildingChecks, rebuiltSeries}
 
 pub data Question : Type 0 where
@@ -38,6 +36,8 @@ pub data Question : Type 0 where
   finishedIn : (n : ℕ) (coefficients : List ℤ) (codes : List ℕ) (a b w k : ℕ) → Question
   stoppedIn : (n : ℕ) (coefficients : List ℤ) (codes : List ℕ) (a b w k d : ℕ) → Question
   dayIn : (n : ℕ) (coefficients : List ℤ) (codes : List ℕ) (d : ℕ) → Question
+  -- two answers joined
+  joinFor : (left right : Answer) → Question
   -- the edges of a column
   edgesFor : (n a b w k : ℕ) → Question
   -- the details of level j of a table
@@ -82,6 +82,7 @@ replyTo (dayFor n s d) = says (saidOfDayChange (dayChange n (tableFrom n s) d))
 replyTo (finishedIn n cs ks a b w k) = says (saidOfFinished (finished n (lent cs ks) a b w k))
 replyTo (stoppedIn n cs ks a b w k d) = says (saidOfStopped (stopped n (lent cs ks) a b w k d))
 replyTo (dayIn n cs ks d) = says (saidOfDayChange (dayChange n (lent cs ks) d))
+replyTo (joinFor left right) = says (taken (valuesOf (joined left right)))
 replyTo (levelFor n j cs) = says (taken (placesOf (levelStretch n j (length cs)) cs))
 replyTo (recordFor n s) = bytes (recordOf n (tableFrom n s))
 replyTo (writingFor n cs ks size) = says (saidOfWriting (writing n (lent cs ks) size))

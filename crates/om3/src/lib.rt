@@ -1,1 +1,1 @@
-// Document 01 as definitions, in specs/, and their laws, in proofs/. There is no code here.
+// Documents 01 and 02 as definitions, in specs/, and their numbers, computed in proofs/. There is no code here.

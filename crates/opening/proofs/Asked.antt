@@ -6,7 +6,7 @@ use Rattle.words.specs.declared.{Refusal.Refusal, Refusal.the-variants.BadPlace
 use Rattle.words.specs.declared.{Opening.Opening, Asking.Asking}
 use Rattle.om3.specs.Document.{P, Check, passes, refuses, inOrder, answerBy, signedFrom, headerSize, hoursIn}
 use Rattle.om3.specs.Document.{coefficientIn, openingChecks, opening, askingView, asking}
-use Rattle.om3.proofs.RecordsOpened.{asking-opened, asking-refused}
+use Rattle.laws.proofs.RecordsOpened.{asking-opened, asking-refused}
 use Rattle.packing.specs.Packing.{coefficientFrom}
 
 module _ (r : List ℕ) (places p : ℕ) where

@@ -1,11 +1,11 @@
 -- Each answer of opening a record, its checks in their order. Assumes nothing.
-use Rattle.kit.proofs.{_≡_, _∙_, true, false, List, [], _∷_, ℕ, _+_, _≤_, _<_, arith, ltb, length, getD, drop-cons}
-use Rattle.kit.proofs.{lt-ltb, le-ltb, ne-eqb, eq-eqb}
+use Rattle.kit.proofs.{_≡_, sym, _∙_, Bool, true, false, List, [], _∷_, ℕ, _+_, _≤_, _<_, arith, ltb, length, getD}
+use Rattle.kit.proofs.{drop-cons, lt-ltb, le-ltb, ne-eqb, eq-eqb}
 use Rattle.words.specs.{version}
 use Rattle.words.specs.declared.Refusal.{Refusal}
 use Rattle.words.specs.declared.Refusal.the-variants.{BadHours, CutShort, BadVersion, BadLength, BytesAfter}
 use Rattle.words.specs.declared.Opening.{Opening}
-use Rattle.om3.specs.Document.{badHours, P, refuses, refuseIf, inOrder, checkHours, numberFrom, recordLength}
+use Rattle.om3.specs.Document.{badHours, P, refuses, refuseIf, inOrder, checkHours, numberFrom, lengthFor, recordLength}
 use Rattle.om3.specs.Document.{recordSize, headerSize, lengthIn, versionIn, hoursIn, checkLength, checkCut, checkAfter}
 use Rattle.om3.specs.Document.{openingChecks, opening}
 
@@ -31,62 +31,55 @@ module _ (r : List ℕ) where
       (rw (le-ltb (length r) headerSize h, version-byte h, ne-eqb (getD r 4 0) version ne))
 
   -- The header is whole, of version 1, and states n hours.
-  pub record Header (n : ℕ) : Type 0 where
-    pub long : headerSize ≤ length r
-    pub isVersion : getD r 4 0 ≡ version
-    pub hours : n ≡ hoursIn r
-
-  module _ (n : ℕ) (h : Header n) where
+  module _ {n : ℕ} (long : headerSize ≤ length r) (isVersion : getD r 4 0 ≡ version) (hours : n ≡ hoursIn r) where
     -- What is left to check after it.
     after-header : inOrder (openingChecks r)
         ≡ inOrder (checkHours (hoursIn r) ∷ checkLength r ∷ checkCut r ∷ checkAfter r ∷ [])
     unfolding inOrder
-    after-header = rw (le-ltb (length r) headerSize (h .long), version-byte (h .long), h .isVersion)
+    after-header = rw (le-ltb (length r) headerSize long, version-byte long, isVersion)
 
-    pub bad-hours : badHours n ≡ true → Opening.Refused BadHours ≡ opening r
-    unfolding inOrder
-    bad-hours b = refused BadHours (after-header ∙ rw (rw (h .hours) at b))
-
-    -- n is a number of hours, their record has this size, and the first field states x bytes.
-    pub record Stated (size x : ℕ) : Type 0 where
-      pub good : badHours n ≡ false
-      pub whole : size ≡ recordSize n
-      pub field : x ≡ lengthIn r
-
-    module _ (size x : ℕ) (s : Stated size x) where
-      pub other-length : (4 + x ≡ size → ⊥) → Opening.Refused BadLength ≡ opening r
+    module _ {bad : Bool} (told : bad ≡ badHours n) where
+      pub bad-hours : bad ≡ true → Opening.Refused BadHours ≡ opening r
       unfolding inOrder
-      other-length ne =
-          let ne′ : lengthIn r ≡ recordLength (hoursIn r) → ⊥ =
-          λ e. ne (rw (s .whole, h .hours, s .field) (omega (arith, e))) in
-          refused BadLength
-          (after-header ∙ rw (rw (h .hours) at (s .good), ne-eqb (lengthIn r) (recordLength (hoursIn r)) ne′))
+      bad-hours b = refused BadHours (after-header ∙ rw (rw hours at (sym told ∙ b)))
 
-      module _ (same : 4 + x ≡ size) where
-        -- What is left to check after the fields.
-        after-fields : inOrder (openingChecks r)
-            ≡ inOrder
-            (refuseIf (ltb (length r) size) CutShort ∷ refuseIf (ltb size (length r)) BytesAfter ∷ [])
+      -- n is a number of hours, their record has p places and this size, and the first field states x bytes.
+      module _ (good : bad ≡ false) {p size x : ℕ} (places : p ≡ P n) (sized : size ≡ 4 + lengthFor p)
+          (field : x ≡ lengthIn r) where
+        hours-good : badHours (hoursIn r) ≡ false
+        hours-good = rw hours at (sym told ∙ good)
+
+        whole : size ≡ recordSize (hoursIn r)
+        whole = rw hours at (rw places at sized)
+
+        pub other-length : (4 + x ≡ size → ⊥) → Opening.Refused BadLength ≡ opening r
         unfolding inOrder
-        after-fields =
-            let right : lengthIn r ≡ recordLength (hoursIn r) =
-            let w = rw (h .hours) at (s .whole) in omega (arith, same, s .field, w) in
-            let stated : 4 + lengthIn r ≡ size = omega (arith, same, s .field) in
-            after-header ∙ rw (rw (h .hours) at (s .good), eq-eqb _ _ right, stated)
+        other-length ne =
+            let ne′ : lengthIn r ≡ recordLength (hoursIn r) → ⊥ = λ e. ne (rw (whole, field) (omega (arith, e))) in
+            refused BadLength
+            (after-header ∙ rw (hours-good, ne-eqb (lengthIn r) (recordLength (hoursIn r)) ne′))
 
-        pub fewer-bytes : length r < size → Opening.Refused CutShort ≡ opening r
-        unfolding inOrder
-        fewer-bytes f = refused CutShort (after-fields ∙ rw (lt-ltb (length r) size f))
+        module _ (same : 4 + x ≡ size) where
+          -- What is left to check after the fields.
+          after-fields : inOrder (openingChecks r)
+              ≡ inOrder
+              (refuseIf (ltb (length r) size) CutShort ∷ refuseIf (ltb size (length r)) BytesAfter ∷ [])
+          unfolding inOrder
+          after-fields =
+              let right : lengthIn r ≡ recordLength (hoursIn r) = omega (arith, whole) in
+              let stated : 4 + lengthIn r ≡ size = omega arith in
+              after-header ∙ rw (hours-good, eq-eqb _ _ right, stated)
 
-        pub more-bytes : size < length r → Opening.Refused BytesAfter ≡ opening r
-        unfolding inOrder
-        more-bytes f =
-            refused BytesAfter
-            (after-fields ∙ rw (le-ltb (length r) size (omega arith), lt-ltb size (length r) f))
+          pub fewer-bytes : length r < size → Opening.Refused CutShort ≡ opening r
+          unfolding inOrder
+          fewer-bytes f = refused CutShort (after-fields ∙ rw (lt-ltb (length r) size f))
 
-        pub whole-record : length r ≡ size → (p : ℕ) → p ≡ P n → Opening.Record n p ≡ opening r
-        unfolding inOrder opening
-        whole-record f p e =
-            let a = le-ltb (length r) size (omega arith) in
-            let b = le-ltb size (length r) (omega arith) in
-            rw (after-fields, a, b, e, h .hours)
+          pub more-bytes : size < length r → Opening.Refused BytesAfter ≡ opening r
+          unfolding inOrder
+          more-bytes f =
+              refused BytesAfter
+              (after-fields ∙ rw (le-ltb (length r) size (omega arith), lt-ltb size (length r) f))
+
+          pub whole-record : size ≤ length r → length r ≤ size → Opening.Record n p ≡ opening r
+          unfolding inOrder opening
+          whole-record f g = rw (after-fields, le-ltb (length r) size f, le-ltb size (length r) g, places, hours)

@@ -5,9 +5,9 @@ use Rattle.kit.proofs.{ℕ, suc, _+_, _-_, _*_, _/_, _^_, _≤_, _<_, zero-add,
 use Rattle.kit.proofs.{set, mag, w32, toZ, ofZ, take-all, take-suc, length-take-le}
 use Rattle.signed.proofs.{reads-back}
 use Rattle.om3.specs.Document.{upFrom, filled, bytesOf, bytesAt, bitsOf, threeBytes, numberFrom, signedOf, InThree}
-use Rattle.om3.proofs.{Lists.up-append, Lists.map-up-length, ThreeBytes.three-size, ThreeBytes.threes-size}
-use Rattle.om3.proofs.{RecordsForth.part-length}
-use Rattle.om3.proofs.Filled.{filled-length, filled-part, filled-set, filled-all}
+use Rattle.laws.proofs.{Lists.up-append, Lists.map-up-length, ThreeBytes.three-size, ThreeBytes.threes-size}
+use Rattle.laws.proofs.{RecordsForth.part-length}
+use Rattle.laws.proofs.Filled.{filled-length, filled-part, filled-set, filled-all}
 use Rattle.packing.specs.Packing.{EachInThree, coefficientFrom, unpacked}
 
 -- What the machine reads back from a number's bits.

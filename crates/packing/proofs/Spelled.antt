@@ -3,7 +3,7 @@ use Rattle.kit.proofs.{_≡_, refl, sym, ap, _∙_, List, [], _∷_, _++_, appe
 use Rattle.kit.proofs.{_≤_, _<_, pow-suc, div-div-eq-div-mul, mul-assoc, add-mul, sub-zero, pow-le-pow-right, div-one}
 use Rattle.kit.proofs.{le-refl, arith, lit<, length, getD, take, set, length-append, w64, Fits, take-all, take-length}
 use Rattle.kit.proofs.{take-suc, set-at, length-take-le, append-snoc}
-use Rattle.om3.proofs.Bytes.{bytes-length}
+use Rattle.laws.proofs.Bytes.{bytes-length}
 use Rattle.om3.specs.Document.{bytesOf, numberFrom}
 
 -- A byte more multiplies what was spelled before by 256.

@@ -1,12 +1,11 @@
 -- Reading a record is reading its parts once it is opened: they are the table that its bytes state. Assumes nothing.
-use Rattle.kit.proofs.{_≡_, refl, sym, ap, ap₂, _∙_, List, ℕ, _+_, _-_, _*_, _/_, _≤_, _<_, arith, ℤ, pos, length, take}
+use Rattle.kit.proofs.{_≡_, refl, sym, ap, _∙_, List, ℕ, _+_, _-_, _*_, _/_, _≤_, _<_, arith, ℤ, pos, length, take}
 use Rattle.kit.proofs.{drop, length-drop, length-take-le, take-take, take-add, drop-at, drop-drop, ext-getD}
 use Rattle.words.specs.declared.{Refusal.Refusal, Opening.Opening, Unpacking.Unpacking}
-use Rattle.om3.specs.Document.{P, lent, Check, passes, refuses, inOrder, answerBy, writtenBy, Bytes, signedFrom}
-use Rattle.om3.specs.Document.{bytesAt}
+use Rattle.om3.specs.Document.{P, lent, Check, passes, refuses, inOrder, answerBy, Bytes, signedFrom, bytesAt}
 use Rattle.om3.specs.Document.{headerSize, hoursIn, coefficientIn, tableIn, openingChecks, unpackingChecks, opening}
-use Rattle.om3.proofs.{Lists.map-up-length, RecordsOpened.opens-formed, RecordsOpened.asked-unpacked}
-use Rattle.om3.proofs.{RecordsTaken.unpacking-parted}
+use Rattle.laws.proofs.{Lists.map-up-length, RecordsOpened.opens-formed, RecordsOpened.asked-unpacked}
+use Rattle.laws.proofs.{RecordsTaken.unpacking-parted}
 use Rattle.packing.specs.Packing.{coefficientFrom, unpacked}
 use Rattle.examining_bytes.specs.Packed.{PackedTable}
 use Rattle.reading.specs.Reading.{partsCheck, PartsRead, RecordRead}
@@ -115,10 +114,7 @@ module _ (r : List ℕ) where
       parts-read bytes x =
           record {
             bytes = bytes;
-            answer =
-                x .answer
-                ∙ ap₂ (λ (c : Check) (m : ℕ). answerBy Unpacking.Refused c (Unpacking.Hours m)) checks-left (o .hours);
-            coefficients =
-                x .coefficients ∙ ap₂ (λ (c : Check) (new : List ℤ). writtenBy c new cs) checks-left coefficients-in;
-            codes = x .codes ∙ ap₂ (λ (c : Check) (new : List ℕ). writtenBy c new ks) checks-left codes-in;
+            answer = rw (← checks-left, ← o .hours) (x .answer);
+            coefficients = rw (← checks-left, ← coefficients-in) (x .coefficients);
+            codes = rw (← checks-left, ← codes-in) (x .codes);
           }

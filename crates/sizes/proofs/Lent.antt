@@ -4,8 +4,8 @@ use Rattle.kit.proofs.{_≡_, _∙_, true, false, List, [], _∷_, ℕ, _/_, _�
 use Rattle.words.specs.declared.{Refusal.Refusal, Refusal.the-variants.BadHours, Refusal.the-variants.ShortBuffer}
 use Rattle.om3.specs.Document.{badHours, P, Table, lent, Check, passes, refuses, andThen, inOrder, checkHours}
 use Rattle.om3.specs.Document.{checkRoom, tableShort}
-use Rattle.om3.proofs.{Examined.in-order-append}
-use Rattle.om3.proofs.Lent.{not-short, coefficients-there, codes-there}
+use Rattle.laws.proofs.{Examined.in-order-append}
+use Rattle.laws.proofs.Lent.{not-short, coefficients-there, codes-there}
 use Rattle.sizes.specs.{Lent.lentCheck, Lent.TableLent, Lent.Passed, Needed.placesNeeded}
 
 module _ (n : ℕ) (cs : List ℤ) (ks : List ℕ) where

@@ -6,8 +6,8 @@ use lib.Count.{leadingZeros, leading-length}
 use lib.Pow.{shl-exact}
 use Rattle.words.specs.{largestLevel, largestHours}
 use Rattle.om3.specs.Document.{levels, P}
-use Rattle.om3.proofs.{Tests.below-or-not}
-use Rattle.om3.proofs.Levels.{levels-some, levels-least, n≤P}
+use Rattle.laws.proofs.{Tests.below-or-not}
+use Rattle.laws.proofs.Levels.{levels-some, levels-least, n≤P}
 
 -- P of two hours or fewer is 2.
 pub two-places : (n : ℕ) → n ≤ 2 → 2 ≡ P n

@@ -1,13 +1,23 @@
 -- Checks 1, 3 and 4 of a table that becomes something else, in a buffer of which so much is lent and so much needed,
 -- one after the other: those of turning back and of writing a record. Assumes nothing.
-use Rattle.kit.proofs.{_≡_, true, false, _||_, List, [], _∷_, ℕ, _≤_, _<_, ℤ, lt-ltb, le-ltb, ltb-false}
+use Rattle.kit.proofs.{_≡_, sym, _∙_, Bool, true, false, _||_, List, [], _∷_, ℕ, _/_, _≤_, _<_, ℤ, length}
+use Rattle.kit.proofs.{lt-ltb, le-ltb, ltb-false}
+use Rattle.words.specs.{largestHours}
 use Rattle.words.specs.declared.Refusal.the-variants.{BadHours, ShortBuffer}
-use Rattle.om3.specs.Document.{badHours, Table, lent, Check, passes, refuses, inOrder, checkHours, short, tableShort}
+use Rattle.om3.specs.Document.{badHours, P, Table, lent, Check, passes, refuses, inOrder, checkHours, short, tableShort}
 use Rattle.om3.specs.Document.{checkRoom, examineTable}
-use Rattle.om3.proofs.{Tests.neither}
-use Rattle.om3.proofs.Examined.{then-passes, order-parts, first-absent}
+use Rattle.laws.proofs.{Tests.neither, Making.good-some, Levels.P-most}
+use Rattle.laws.proofs.Examined.{then-passes, order-parts, first-absent}
 use Rattle.sizes.specs.Lent.{Enough}
 use Rattle.sizes.proofs.Lent.{table-lent, table-room}
+
+-- So many hours there are at most, and so many places.
+module _ (n : ℕ) where
+  pub hours-most : {bad : Bool} → bad ≡ badHours n → bad ≡ false → n ≤ largestHours
+  hours-most told good = good-some n (sym told ∙ good) .1
+
+  pub places-most : {p : ℕ} → p ≡ P n → p ≤ largestHours
+  places-most e = rw e (P-most n)
 
 module _ (n : ℕ) (cs : List ℤ) (ks : List ℕ) (size needed : ℕ) where
   abbrev T : Table
@@ -17,22 +27,31 @@ module _ (n : ℕ) (cs : List ℤ) (ks : List ℕ) (size needed : ℕ) where
   checks =
       inOrder (checkHours n ∷ checkRoom (tableShort n T || short size needed) ∷ examineTable n T ∷ [])
 
-  pub bad-hours : badHours n ≡ true → checks ≡ refuses BadHours
-  unfolding inOrder
-  bad-hours b = rw b
-
-  module _ (good : badHours n ≡ false) where
-    pub short-table : tableShort n T ≡ true → checks ≡ refuses ShortBuffer
+  -- By what check 1 found, how many places there are, and what check 3 found of the table.
+  module _ {bad : Bool} (hours-told : bad ≡ badHours n) where
+    pub bad-hours : bad ≡ true → checks ≡ refuses BadHours
     unfolding inOrder
-    short-table h = rw (good, h)
+    bad-hours b = rw (sym hours-told ∙ b)
 
-    module _ (room : tableShort n T ≡ false) where
-      pub short-buffer : size < needed → checks ≡ refuses ShortBuffer
+    module _ (good : bad ≡ false) {p : ℕ} (places : p ≡ P n) {less : Bool}
+        (table-told : less ≡ (short (length cs) p || short (length ks) (p / 2))) where
+      hours-good : badHours n ≡ false
+      hours-good = sym hours-told ∙ good
+
+      table-found : less ≡ tableShort n T
+      table-found = rw places at table-told
+
+      pub short-table : less ≡ true → checks ≡ refuses ShortBuffer
       unfolding inOrder
-      short-buffer h = rw (good, room, lt-ltb size needed h)
+      short-table h = rw (hours-good, sym table-found ∙ h)
 
-      pub enough : needed ≤ size → Enough n cs ks size needed
-      enough h = record { table = table-lent n cs ks good room; buffer = h }
+      module _ (room : less ≡ false) where
+        pub short-buffer : size < needed → checks ≡ refuses ShortBuffer
+        unfolding inOrder
+        short-buffer h = rw (hours-good, sym table-found ∙ room, lt-ltb size needed h)
+
+        pub enough : needed ≤ size → Enough n cs ks size needed
+        enough h = record { table = table-lent n cs ks hours-good (sym table-found ∙ room); buffer = h }
 
   -- Only the table itself is still to examine.
   pub decided : Enough n cs ks size needed → checks ≡ examineTable n T

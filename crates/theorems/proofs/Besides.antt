@@ -10,7 +10,7 @@ use Rattle.om3.specs.Document.{upFrom, Series, levels, P, hoursFrom, Table, tab
 use Rattle.om3.specs.Document.{passes, refuses, inOrder, coefficientIn, openingChecks, askingView, asking, day}
 use Rattle.om3.specs.Document.{changeOf, dayChange, column, columnHours, finished, joined, lookThrough, count, gramsOf}
 use Rattle.om3.specs.Document.{printingChecks}
-use Rattle.om3.proofs as om3
+use Rattle.laws.proofs as laws
 use Rattle.making.specs.Making.{Made}
 use Rattle.turning.specs.Turning.{TurnedBack}
 use Rattle.view.specs.{declared.View.View, View.viewOf}
@@ -64,7 +64,7 @@ module _ (bytes : RefT (List ℕ)) (v : View) (opens : v ≡ viewOf bytes) (p : 
 -- The columns of a window hold its hours, each once and in order.
 window-columns : (a b w : ℕ) → 1 ≤ w → a ≤ b
     → flatMap columnHours (map (column a b w) (upFrom 0 w)) ≡ hoursFrom a (b - a)
-window-columns = om3.Windows.window-columns
+window-columns = laws.Windows.window-columns
 
 -- An answer that was told and is handed in, to be joined, is the same answer.
 answer-back : (a : Answer) → answerIn (answerTold a) ≡ a
@@ -73,13 +73,13 @@ answer-back = told.Back.answer-back
 -- From a table that a series has, the change of a day is that of a look through its hours.
 day-change : (n : ℕ) (s : List ℤ) (t : Table) → Series n s → HasTable n s t → (d : ℕ) → dayHours * d < n
     → dayChange n t d ≡ changeOf (lookThrough n s (columnHours (day n d)))
-day-change = om3.Demand3.day-drawn
+day-change = laws.Demand3.day-drawn
 
 -- What a look through the hours from f up to, not including, h gives is joined from those of its parts, cut at hour g.
 look-joined : (n : ℕ) (s : List ℤ) (f g h : ℕ) → f ≤ g → g ≤ h
     → lookThrough n s (hoursFrom f (h - f))
     ≡ joined (lookThrough n s (hoursFrom f (g - f))) (lookThrough n s (hoursFrom g (h - g)))
-look-joined = om3.LookedThrough.look-through-cut
+look-joined = laws.LookedThrough.look-through-cut
 
 -- The printer's calls, by their contracts, print what document 01 prints for the text, however it is cut into pieces,
 -- if it has fewer than 2^64 − 1 bytes.
@@ -90,10 +90,10 @@ printer = theorems.Printer.prints-pieces
 -- through its hours gives, with the defined count.
 module _ (a b w : ℕ) (lines : List HourLine) (ok : inOrder (printingChecks a b w lines) ≡ passes) where
   printed-series : Series (length lines) (map gramsOf lines)
-  printed-series = om3.PrintedColumns.text-series a b w lines ok
+  printed-series = laws.PrintedColumns.text-series a b w lines ok
 
   printed-columns : (k : ℕ) → k < w
       → (let n = length lines in let s = map gramsOf lines in
       let t = tableOf (levels n) n s in let x = column a b w k in
       finished n t a b w k ≡ Finished.Answered (lookThrough n s (columnHours x)) (count (levels n) t x))
-  printed-columns = om3.PrintedColumns.columns-answered a b w lines ok
+  printed-columns = laws.PrintedColumns.columns-answered a b w lines ok

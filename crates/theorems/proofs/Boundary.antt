@@ -1,12 +1,12 @@
 -- Demands 2 and 3 as the boundary tells them, of what its calls promise: what is shown of the calls behind it, with
 -- "taken" told as number 0. Assumes nothing.
-use Rattle.kit.proofs.{_≡_, ap, _∙_, false, List, _↔_, ℕ, _≤_, ℤ, length, take}
+use Rattle.kit.proofs.{_≡_, refl, ap, _∙_, false, List, _↔_, ℕ, _≤_, ℤ, length, take}
 use Rattle.words.specs.{lowOf, highOf}
 use Rattle.words.specs.declared.{Taking.Taking, Unpacking.Unpacking}
 use Rattle.om3.specs.Document.{Series, levels, tableOf, HasTable, lent, tableShort, filled, makingChecks}
 use Rattle.om3.specs.Document.{turningBackChecks, HasRecord, hoursIn, unpackingChecks, column, columnHours}
 use Rattle.om3.specs.Document.{finished, stopped, lookThrough, count, outer, inner, countAt, Drawn}
-use Rattle.om3.proofs.Demand3.{finished-drawn, stopped-drawn}
+use Rattle.laws.proofs.Demand3.{finished-drawn, stopped-drawn}
 use Rattle.sizes.specs.Lent.{Enough}
 use Rattle.making.specs.Making.{Made}
 use Rattle.turning.specs.Turning.{TurnedBack}
@@ -100,12 +100,7 @@ module _ (n : ℕ) (s cs : List ℤ) (ks : List ℕ) (series : Series n s) (has 
       (r .number ≡ 0) × (r .place ≡ 0) × (r .answer ≡ answerTold (lookThrough n s (columnHours x)))
       × (r .count ≡ count (levels n) (lent cs ks) x))
   finished-fields r told =
-      let e = told ∙ ap finishedTold (finished-drawn n s (lent cs ks) series has a b w k drawn) in (
-        ap (λ (u : ToldFinished). u .number) e,
-        ap (λ (u : ToldFinished). u .place) e,
-        ap (λ (u : ToldFinished). u .answer) e,
-        ap (λ (u : ToldFinished). u .count) e,
-      )
+      rw (told, finished-drawn n s (lent cs ks) series has a b w k drawn) (refl, refl, refl, refl)
 
   pub stopped-fields : (d : ℕ) → d ≤ levels n → (r : ToldRanges)
       → r ≡ stoppedTold (stopped n (lent cs ks) a b w k d)
@@ -115,15 +110,8 @@ module _ (n : ℕ) (s cs : List ℤ) (ks : List ℕ) (series : Series n s) (has 
       × (r .«inner_low» ≡ lowOf (inner l t x d)) × (r .«inner_high» ≡ highOf (inner l t x d))
       × (r .count ≡ countAt l t x d))
   stopped-fields d deep r told =
-      let e = told ∙ ap stoppedTold (stopped-drawn n s (lent cs ks) series has a b w k drawn d deep) in (
-        ap (λ (u : ToldRanges). u .number) e,
-        ap (λ (u : ToldRanges). u .place) e,
-        ap (λ (u : ToldRanges). u .«outer_low») e,
-        ap (λ (u : ToldRanges). u .«outer_high») e,
-        ap (λ (u : ToldRanges). u .«inner_low») e,
-        ap (λ (u : ToldRanges). u .«inner_high») e,
-        ap (λ (u : ToldRanges). u .count) e,
-      )
+      rw (told, stopped-drawn n s (lent cs ks) series has a b w k drawn d deep)
+      (refl, refl, refl, refl, refl, refl, refl)
 
 -- A column of a table that was made and is lent again.
 module _ (n : ℕ) (s cs cs′ : List ℤ) (ks ks′ : List ℕ) (r : Told)

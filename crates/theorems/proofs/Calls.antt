@@ -7,11 +7,11 @@ use Rattle.om3.specs.Document.{Holds, Series, levels, P, Table, coefficient, co
 use Rattle.om3.specs.Document.{turnedBack, passes, inOrder, soundTable, tableShort, makingChecks, turningBackChecks}
 use Rattle.om3.specs.Document.{filled}
 use Rattle.sizes.specs.Lent.{TableLent, Enough}
-use Rattle.om3.proofs.{Filled.filled-first, Filled.filled-room, Lists.map-up-length, Lists.take-room}
-use Rattle.om3.proofs.{Examined.examine-sound, TurnedBack.turned-length, Making.good-some, Making.making-series}
+use Rattle.laws.proofs.{Filled.filled-first, Filled.filled-room, Lists.map-up-length, Lists.take-room}
+use Rattle.laws.proofs.{Examined.examine-sound, TurnedBack.turned-length, Making.good-some, Making.making-series}
 use Rattle.sizes.proofs.{Lent.table-room, TableChecks.decided, TableChecks.passed}
-use Rattle.om3.proofs.Demand2 as demand2
-use Rattle.om3.proofs.Taken.{taken-passes, good-hours, making-decided, readings-pass, table-first}
+use Rattle.laws.proofs.Demand2 as demand2
+use Rattle.laws.proofs.Taken.{taken-passes, good-hours, making-decided, readings-pass, table-first}
 use Rattle.making.specs.Making.{Made}
 use Rattle.turning.specs.Turning.{TurnedBack}
 
@@ -41,8 +41,7 @@ module _ (n : ℕ) (cs : List ℤ) (ks : List ℕ) (out : List ℤ) where
       pub writes-series : (s : List ℤ) → Series n s → HasTable n s T → out′ ≡ filled s out
       writes-series s series has =
           let ok = sound-passes (demand2.has-sound n s T series has) in
-          let e = rw ok at (done .hours) in
-          e ∙ ap (λ (u : List ℤ). filled u out) (sym (demand2.has-turned n s T series has))
+          rw (ok, ← demand2.has-turned n s T series has) at (done .hours)
 
 -- Buffers that begin with the table of a series have it.
 module _ (n : ℕ) (s : List ℤ) where
@@ -179,10 +178,8 @@ module _ (n : ℕ) where
           → (r ≡ Taking.Taken) × (cs₂ ≡ filled (take (P n) cs) cs₁) × (ks₂ ≡ filled (take (P n / 2) ks) ks₁)
       made-after cs₂ ks₂ r made = (
         rw made-again at (made .answer),
-        rw made-again at (made .coefficients)
-            ∙ ap (λ (t : Table). filled (t .coefficients) cs₁) same-table
-            ∙ ap (λ (u : List ℤ). filled u cs₁) (sym (again-has .coefficients)),
-        rw made-again at (made .codes)
-            ∙ ap (λ (t : Table). filled (t .codes) ks₁) same-table
-            ∙ ap (λ (u : List ℕ). filled u ks₁) (sym (again-has .codes)),
+        rw (again-has .coefficients)
+            (rw made-again at (made .coefficients) ∙ ap (λ (t : Table). filled (t .coefficients) cs₁) same-table),
+        rw (again-has .codes)
+            (rw made-again at (made .codes) ∙ ap (λ (t : Table). filled (t .codes) ks₁) same-table),
       )

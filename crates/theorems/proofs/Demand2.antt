@@ -6,7 +6,7 @@ use denote.Ref.{now}
 use Rattle.kit.specs.Calls.{second, third, fourth}
 use Rattle.om3.specs.Document.{Series, levels, Table, tableOf, HasTable, lent, tableShort, filled, Bytes, HasRecord}
 use Rattle.om3.specs.Document.{hoursIn}
-use Rattle.om3.proofs as om3
+use Rattle.laws.proofs as laws
 use Rattle.sizes.specs.Lent.{Enough}
 use Rattle.sagivelume.proofs.Clauses as boundary
 use Rattle.theorems.proofs.Boundary as told
@@ -56,7 +56,7 @@ module _ (κs : _) (n : _) (coefficients : _) (codes : _) (hours : _) (r : _) (e
 
 -- .. which is the only one.
 only-series : (n : ℕ) (t : Table) (s u : List ℤ) → Series n s → HasTable n s t → Series n u → HasTable n u t → s ≡ u
-only-series = om3.Demand2.only-series
+only-series = laws.Demand2.only-series
 
 -- Reading a record.
 module _ (κs : _) (bytes : _) (coefficients : _) (codes : _) (r : _) (e : _)
@@ -87,4 +87,4 @@ module _ (κs : _) (bytes : _) (coefficients : _) (codes : _) (r : _) (e : _)
 -- .. which is the only one, of whatever length.
 one-series : (n m : ℕ) (bs : List ℕ) (s u : List ℤ) → Series n s → HasRecord n s bs → Series m u → HasRecord m u bs
     → (n ≡ m) × (s ≡ u)
-one-series = om3.RecordsTaken.record-series
+one-series = laws.RecordsTaken.record-series

@@ -10,7 +10,7 @@ use Rattle.words.specs.declared.{Timestamp.Timestamp, Column.Column}
 use Rattle.om3.specs.Document.{Series, levels, hourOf, isGap, Table, HasTable, lent, look, column}
 use Rattle.om3.specs.Document.{inColumn, columnHours, lookThrough, Covers, LiesWithin, outer, inner, countAt, count}
 use Rattle.om3.specs.Document.{Drawn, Ranged}
-use Rattle.om3.proofs as om3
+use Rattle.laws.proofs as laws
 use Rattle.told.specs.Columns.{answerTold}
 use Rattle.sagivelume.proofs.Clauses as boundary
 use Rattle.theorems.proofs.Boundary as told
@@ -29,7 +29,7 @@ module _ (n : ℕ) (s : List ℤ) (coefficients : RefT (List ℤ)) (codes : RefT
   x = column a b w k
 
   abbrev ranged : Ranged n s t x
-  ranged = om3.Demand3.ranged-drawn n s t series has a b w k drawn
+  ranged = laws.Demand3.ranged-drawn n s t series has a b w k drawn
 
   -- Finished, it tells number 0 at 0, what a look through its hours gives, first and last reading with their hours,
   -- lowest and highest, or none, and the defined count, ..

@@ -2,7 +2,7 @@
 use Rattle.kit.proofs.{_≡_, sym, ap, _∙_, List, [], _∷_, _++_, foldl, flatten, ℕ, _+_, _-_, _^_, _≤_, _<_, arith}
 use Rattle.kit.proofs.{length, take, drop, sets, sets-eq}
 use Rattle.om3.specs.Document.{Table, lent, filled, printed}
-use Rattle.om3.proofs.Filled.{filled-first}
+use Rattle.laws.proofs.Filled.{filled-first}
 use Rattle.parsing.specs.Parsing.{Progress, progress, begun, readOn, closed}
 use Rattle.printing.specs.declared.Drawing.{Drawing}
 use Rattle.printing.specs.Printing.{piece}

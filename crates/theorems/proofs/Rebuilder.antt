@@ -1,6 +1,6 @@
 -- The old log reader's calls one after the other write what is defined for the text. Assumes nothing.
 use Rattle.kit.proofs.{_≡_, sym, ap, _∙_, List, [], _∷_, foldl, flatten, ℕ, _-_, _^_, _≤_, _<_, arith, ℤ, length, take}
-use Rattle.om3.proofs.Filled.{filled-first}
+use Rattle.laws.proofs.Filled.{filled-first}
 use Rattle.parsing.specs.Parsing.{Progress, progress, begun, readOn, closed}
 use Rattle.old_text.specs.declared.Rebuilding.{Rebuilding}
 use Rattle.old_text.specs.RebuiltText.{piece}

@@ -3,8 +3,8 @@ use Rattle.kit.proofs.{_≡_, sym, _∙_, false, _||_, List, _↔_, ℕ, ℤ, l
 use Rattle.words.specs.declared.{Timestamp.Timestamp, Taking.Taking}
 use Rattle.om3.specs.Document.{Series, badHours, short, filled, rebuiltSeries, rebuildingChecks, TrueLog, trueSeries}
 use Rattle.om3.specs.Document.{heldAt, hour, inOrder, rebuilt, recordedHours}
-use Rattle.om3.proofs.{Filled.filled-first, Lists.map-up-length, Taken.taken-passes, OldLogs.rebuilt-series}
-use Rattle.om3.proofs.TrueLogs.{true-passes, true-series}
+use Rattle.laws.proofs.{Filled.filled-first, Lists.map-up-length, Taken.taken-passes, OldLogs.rebuilt-series}
+use Rattle.laws.proofs.TrueLogs.{true-passes, true-series}
 use Rattle.old_log.specs.Rebuilding.{Rebuilt}
 use Rattle.told.specs.{declared.tables.Told.Told, Tables.takingTold}
 use Rattle.sagivelume.specs.Boundary.{Tells}

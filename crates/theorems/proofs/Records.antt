@@ -8,14 +8,14 @@ use Rattle.om3.specs.Document.{inOrder, answerBy, tableShort, checkRoom, examin
 use Rattle.om3.specs.Document.{recordOf, HasRecord, headerSize, hoursIn, tableIn, writingChecks, openingChecks}
 use Rattle.om3.specs.Document.{unpackingChecks, opening, askingView, asking}
 use Rattle.sizes.specs.Lent.{Enough}
-use Rattle.om3.proofs.{Making.good-some, Lent.coefficients-there, Lent.codes-there, Filled.filled-first}
-use Rattle.om3.proofs.{Filled.filled-room, Records.record-size, RecordsOpened.opens-formed}
-use Rattle.om3.proofs.{RecordsOpened.asked-unpacked}
-use Rattle.om3.proofs.RecordsTaken.{reading-exactly, record-hours, record-table, unpacking-parted, opened-room}
-use Rattle.om3.proofs.RecordsTaken.{table-record, made-read}
-use Rattle.om3.proofs.Examined.{then-first, then-second, first-absent, examine-sound}
+use Rattle.laws.proofs.{Making.good-some, Lent.coefficients-there, Lent.codes-there, Filled.filled-first}
+use Rattle.laws.proofs.{Filled.filled-room, Records.record-size, RecordsOpened.opens-formed}
+use Rattle.laws.proofs.{RecordsOpened.asked-unpacked}
+use Rattle.laws.proofs.RecordsTaken.{reading-exactly, record-hours, record-table, unpacking-parted, opened-room}
+use Rattle.laws.proofs.RecordsTaken.{table-record, made-read}
+use Rattle.laws.proofs.Examined.{then-first, then-second, first-absent, examine-sound}
 use Rattle.sizes.proofs.{Lent.table-room, TableChecks.decided, TableChecks.passed}
-use Rattle.om3.proofs.Demand2 as demand2
+use Rattle.laws.proofs.Demand2 as demand2
 use Rattle.opening.proofs.Asked.{opened-asked}
 use Rattle.writing.specs.Writing.{RecordWritten}
 use Rattle.reading.specs.Reading.{RecordRead}
@@ -53,8 +53,8 @@ module _ (r : List ℕ) (bytes : Bytes r) (cs : List ℤ) (ks : List ℕ)
   read-writes s series has =
       let ok = reading-exactly r bytes (lent cs ks) room .1 (s, series, has) in
       let t = record-table (hoursIn r) r s series has in (
-        rw ok at (done .coefficients) ∙ ap (λ (x : Table). filled (x .coefficients) cs) t,
-        rw ok at (done .codes) ∙ ap (λ (x : Table). filled (x .codes) ks) t,
+        rw (ok, t) at (done .coefficients),
+        rw (ok, t) at (done .codes),
       )
 
 -- A table that was written: with its hours and its room in order it is sound, so some series has it.
@@ -95,12 +95,8 @@ module _ (n : ℕ) (cs : List ℤ) (ks out out′ : List ℕ) (b : ℕ)
       ∙ made-read n s series (lent cs₁ ks₁) room in
       let t = record-table n (take b out′) s series has in (
         rw (ok, record-hours n (take b out′) s series has) at (read .answer),
-        rw ok at (read .coefficients)
-            ∙ ap (λ (x : Table). filled (x .coefficients) cs₁) t
-            ∙ ap (λ (x : List ℤ). filled x cs₁) (sym (some-series .2 .coefficients)),
-        rw ok at (read .codes)
-            ∙ ap (λ (x : Table). filled (x .codes) ks₁) t
-            ∙ ap (λ (x : List ℕ). filled x ks₁) (sym (some-series .2 .codes)),
+        rw (ok, t, ← some-series .2 .coefficients) at (read .coefficients),
+        rw (ok, t, ← some-series .2 .codes) at (read .codes),
       )
 
 -- A record that was read.

@@ -9,12 +9,9 @@ use Rattle.words.specs.declared.{DayChange.DayChange}
 use Rattle.words.specs.declared.Refusal.the-variants as refusal
 use Rattle.om3.specs.Document.{Check, passes, refuses, inOrder, answerBy, levels, lent, answer, day, changeOf}
 use Rattle.om3.specs.Document.{opening, askingView, edges, stopped, finished, dayChange}
-use Rattle.om3.proofs.Examined.{first-cause}
+use Rattle.laws.proofs.Examined.{first-cause}
 use Rattle.told.specs.declared.tables.Told.{Told}
-use Rattle.told.specs.declared.records.{ToldBytes.ToldBytes, ToldHours.ToldHours, ToldRecord.ToldRecord}
-use Rattle.told.specs.declared.records.{ToldCoefficient.ToldCoefficient}
-use Rattle.told.specs.declared.columns.{ToldColumn.ToldColumn, ToldRanges.ToldRanges, ToldFinished.ToldFinished}
-use Rattle.told.specs.declared.columns.{ToldChange.ToldChange}
+use Rattle.told.specs.declared.records.ToldHours.{ToldHours}
 use Rattle.told.specs.Tables.{takingTold}
 use Rattle.told.specs.Records.{writingTold, unpackingTold, openingTold, askingTold}
 use Rattle.told.specs.Columns.{edgesTold, stoppedTold, finishedTold, changeTold}
@@ -41,10 +38,15 @@ none-zero refusal.BadStart e = omega arith
 
 -- A call with these checks, its answers, and how the boundary tells them: a refusal by its number and its place, and
 -- what is taken with the number 0.
-module _ {A T : Type 0} (refused : Refusal → A) (taken : A) (told : A → T) (number place : T → ℕ)
-    (by-number : (why : Refusal) → number (told (refused why)) ≡ numberOf why)
-    (by-place : (why : Refusal) → place (told (refused why)) ≡ placeOf why) (zero : number (told taken) ≡ 0)
-    (checks : List Check) (r : T) where
+module _ {A T : Type 0} (refused : Refusal → A) (taken : A) (told : A → T) (saying : T → ℕ × ℕ)
+    (refusing : (why : Refusal) → saying (told (refused why)) ≡ (numberOf why, placeOf why))
+    (zero : saying (told taken) .0 ≡ 0) (checks : List Check) (r : T) where
+  abbrev number : T → ℕ
+  number u = saying u .0
+
+  abbrev place : T → ℕ
+  place u = saying u .1
+
   pub tells-refusal : r ≡ told (answerBy refused (inOrder checks) taken) → RefusedTold checks (number r) (place r)
   tells-refusal e = by (inOrder checks) refl
     where
@@ -57,8 +59,8 @@ module _ {A T : Type 0} (refused : Refusal → A) (taken : A) (told : A → T) (
                 let z : _≡_ {A = ℕ} 0 1 = cc (sym d ∙ first-cause checks why .1 first) in omega arith;
           }
       by (refuses why) d =
-          let n : number r ≡ numberOf why = ap number (rw d at e) ∙ by-number why in
-          let p : place r ≡ placeOf why = ap place (rw d at e) ∙ by-place why in
+          let n : number r ≡ numberOf why = ap number (rw d at e) ∙ ap (λ (u : ℕ × ℕ). u .0) (refusing why) in
+          let p : place r ≡ placeOf why = ap place (rw d at e) ∙ ap (λ (u : ℕ × ℕ). u .1) (refusing why) in
           record {
             cause = λ other. (why, first-cause checks why .0 d, n, p);
             tells = λ why′ first.
@@ -73,7 +75,8 @@ module _ {A T : Type 0} (refused : Refusal → A) (taken : A) (told : A → T) (
       by : (c : Check) → inOrder checks ≡ c → (number r ≡ 0) ↔ (a ≡ taken)
       by passes p = (λ z. rw p at d, λ z. ap number (e ∙ ap told z) ∙ zero)
       by (refuses why) p =
-          let n : number r ≡ numberOf why = ap number (e ∙ ap told (rw p at d)) ∙ by-number why in
+          let n : number r ≡ numberOf why =
+          ap number (e ∙ ap told (rw p at d)) ∙ ap (λ (u : ℕ × ℕ). u .0) (refusing why) in
           (λ z. absurd (none-zero why (sym n ∙ z)), λ z. ap number (e ∙ ap told z) ∙ zero)
 
 -- The calls that answer by Taking, Writing and Unpacking.
@@ -82,22 +85,20 @@ module _ (checks : List Check) where
     taking-refusal : r ≡ takingTold (answerBy Taking.Refused (inOrder checks) Taking.Taken)
         → RefusedTold checks (r .number) (r .place)
     taking-refusal =
-        tells-refusal Taking.Refused Taking.Taken takingTold (λ (u : Told). u .number) (λ (u : Told). u .place)
-        (λ why. refl) (λ why. refl) refl checks r
+        tells-refusal Taking.Refused Taking.Taken takingTold (λ u. (u .number, u .place)) (λ why. refl) refl checks r
 
     pub taking-zero : (a : Taking) → r ≡ takingTold a → a ≡ answerBy Taking.Refused (inOrder checks) Taking.Taken
         → (r .number ≡ 0) ↔ (a ≡ Taking.Taken)
     taking-zero =
-        zero-taken Taking.Refused Taking.Taken takingTold (λ (u : Told). u .number) (λ (u : Told). u .place)
-        (λ why. refl) (λ why. refl) refl checks r
+        zero-taken Taking.Refused Taking.Taken takingTold (λ u. (u .number, u .place)) (λ why. refl) refl checks r
 
   module _ (hours : ℕ) (r : ToldHours) where
     pub unpacking-zero : (a : Unpacking) → r ≡ unpackingTold a
         → a ≡ answerBy Unpacking.Refused (inOrder checks) (Unpacking.Hours hours)
         → (r .number ≡ 0) ↔ (a ≡ Unpacking.Hours hours)
     unpacking-zero =
-        zero-taken Unpacking.Refused (Unpacking.Hours hours) unpackingTold (λ (u : ToldHours). u .number)
-        (λ (u : ToldHours). u .place) (λ why. refl) (λ why. refl) refl checks r
+        zero-taken Unpacking.Refused (Unpacking.Hours hours) unpackingTold (λ u. (u .number, u .place)) (λ why. refl)
+        refl checks r
 
 -- A day that is taken tells number 0, with a reading or without.
 change-zero : (a : Answer) → changeTold (changeOf a) .number ≡ 0
@@ -108,36 +109,27 @@ pub each-refused : EachRefused
 unfolding opening askingView edges stopped finished dayChange
 each-refused =
     record {
-      make = λ κs n readings coefficients codes r e m.
-          taking-refusal _ r (tells-one m (m .keeps .answer));
-      turn-back = λ κs n coefficients codes hours r e m.
-          taking-refusal _ r (tells-one m (m .keeps .answer));
-      rebuild = λ κs n counts flags start hours r e m.
-          taking-refusal _ r (tells-one m (m .keeps .answer));
+      make = λ κs n readings coefficients codes r e m. taking-refusal _ r (tells-one m (m .keeps .answer));
+      turn-back = λ κs n coefficients codes hours r e m. taking-refusal _ r (tells-one m (m .keeps .answer));
+      rebuild = λ κs n counts flags start hours r e m. taking-refusal _ r (tells-one m (m .keeps .answer));
       write-record = λ κs n coefficients codes bytes r e m.
-          tells-refusal Writing.Refused _ writingTold (λ (u : ToldBytes). u .number) (λ (u : ToldBytes). u .place)
-          (λ why. refl) (λ why. refl) refl _ r (tells-one m (m .keeps .answer));
+          tells-refusal Writing.Refused _ writingTold (λ u. (u .number, u .place)) (λ why. refl) refl _ r
+          (tells-one m (m .keeps .answer));
       read-record = λ κs bytes coefficients codes r e m.
-          tells-refusal Unpacking.Refused _ unpackingTold (λ (u : ToldHours). u .number) (λ (u : ToldHours). u .place)
-          (λ why. refl) (λ why. refl) refl _ r (tells-one m (m .keeps .answer));
+          tells-refusal Unpacking.Refused _ unpackingTold (λ u. (u .number, u .place)) (λ why. refl) refl _ r
+          (tells-one m (m .keeps .answer));
       open-record = λ κs bytes r e m.
-          tells-refusal Opening.Refused _ openingTold (λ (u : ToldRecord). u .number) (λ (u : ToldRecord). u .place)
-          (λ why. refl) (λ why. refl) refl _ r m;
+          tells-refusal Opening.Refused _ openingTold (λ u. (u .number, u .place)) (λ why. refl) refl _ r m;
       ask = λ κs bytes places place r e m.
-          tells-refusal Asking.Refused _ askingTold (λ (u : ToldCoefficient). u .number)
-          (λ (u : ToldCoefficient). u .place) (λ why. refl) (λ why. refl) refl _ r m;
+          tells-refusal Asking.Refused _ askingTold (λ u. (u .number, u .place)) (λ why. refl) refl _ r m;
       column-edges = λ κs n a b w k r e m.
-          tells-refusal Edges.Refused _ edgesTold (λ (u : ToldColumn). u .number) (λ (u : ToldColumn). u .place)
-          (λ why. refl) (λ why. refl) refl _ r m;
+          tells-refusal Edges.Refused _ edgesTold (λ u. (u .number, u .place)) (λ why. refl) refl _ r m;
       stopped-column = λ κs n coefficients codes a b w k d r e m.
-          tells-refusal Stopped.Refused _ stoppedTold (λ (u : ToldRanges). u .number) (λ (u : ToldRanges). u .place)
-          (λ why. refl) (λ why. refl) refl _ r m;
+          tells-refusal Stopped.Refused _ stoppedTold (λ u. (u .number, u .place)) (λ why. refl) refl _ r m;
       finished-column = λ κs n coefficients codes a b w k r e m.
-          tells-refusal Finished.Refused _ finishedTold (λ (u : ToldFinished). u .number)
-          (λ (u : ToldFinished). u .place) (λ why. refl) (λ why. refl) refl _ r m;
+          tells-refusal Finished.Refused _ finishedTold (λ u. (u .number, u .place)) (λ why. refl) refl _ r m;
       day-change = λ κs n coefficients codes d r e m.
-          tells-refusal DayChange.Refused _ changeTold (λ (u : ToldChange). u .number) (λ (u : ToldChange). u .place)
-          (λ why. refl) (λ why. refl)
+          tells-refusal DayChange.Refused _ changeTold (λ u. (u .number, u .place)) (λ why. refl)
           (change-zero (answer (levels n) (lent (now coefficients) (now codes)) (day n d))) _ r m;
     }
 

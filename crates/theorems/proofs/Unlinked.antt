@@ -3,7 +3,7 @@
 use Rattle.kit.proofs.{map, length}
 use Rattle.words.specs.declared.Asking.{Asking}
 use Rattle.om3.specs.Document.{asking, refusalLine, gramsOf}
-use Rattle.om3.proofs.{Examined.refused-exactly, RefusalLines.line-one, RefusalLines.drawn-apart}
+use Rattle.laws.proofs.{Examined.refused-exactly, RefusalLines.line-one, RefusalLines.drawn-apart}
 use Rattle.theorems.specs.Unlinked.{UnlinkedCause}
 
 pub unlinked-cause : UnlinkedCause

@@ -6,8 +6,8 @@ use Rattle.kit.proofs.{getD-set-other, ext-getD, eqb-true, eqb-false}
 use Rattle.words.specs.{gap, lowOf}
 use Rattle.om3.specs.Document.{Node, root, left, right, width, Table, reachedAt, reached, turnedBack}
 use Rattle.node.specs.Located.{Located}
-use Rattle.om3.proofs.{Tests.below-or-not, Nodes.width-hour, Nodes.start-hour, TurnedBack.turned-length}
-use Rattle.om3.proofs.{TurnedBack.turned-at}
+use Rattle.laws.proofs.{Tests.below-or-not, Nodes.width-hour, Nodes.start-hour, TurnedBack.turned-length}
+use Rattle.laws.proofs.{TurnedBack.turned-at}
 use Rattle.node.proofs.Located.{root-located, left-located, right-located}
 use Rattle.turning.specs.Turning.{withHours}
 

@@ -1,12 +1,12 @@
 -- Each answer of turning back: its checks in their order, and the hours of a sound table. Assumes nothing.
-use Rattle.kit.proofs.{_≡_, sym, _∙_, true, false, List, _++_, ℕ, _-_, _<_, arith, ℤ, pos, length, getD, take, drop}
+use Rattle.kit.proofs.{_≡_, sym, _∙_, true, List, _++_, ℕ, _-_, arith, ℤ, pos, length, getD, take, drop}
 use Rattle.kit.proofs.{length-take-le}
 use Rattle.words.specs.declared.{NodeId.NodeId, Range.Range, Refusal.Refusal, Taking.Taking}
 use Rattle.words.specs.declared.Refusal.the-variants as refusal
-use Rattle.om3.specs.Document.{every, badHours, levels, P, root, lent, Check, passes, refuses, inOrder, soundRootValues}
-use Rattle.om3.specs.Document.{nodesBelow, soundTable, soundNode, tableShort, examineTable, turningBackChecks}
+use Rattle.om3.specs.Document.{every, levels, P, root, lent, Check, passes, refuses, inOrder, soundRootValues}
+use Rattle.om3.specs.Document.{nodesBelow, soundTable, soundNode, examineTable, turningBackChecks}
 use Rattle.sizes.specs.Lent.{Enough}
-use Rattle.om3.proofs.{Making.good-some, Tests.and-right, Levels.n≤P, TurnedBack.turned-length, Examined.examine-sound}
+use Rattle.laws.proofs.{Making.good-some, Tests.and-right, Levels.n≤P, TurnedBack.turned-length, Examined.examine-sound}
 use Rattle.node.proofs.Located.{root-located}
 use Rattle.sizes.proofs.TableChecks as checked
 use Rattle.node.specs.declared.Root.{Root}
@@ -22,21 +22,8 @@ module _ (n : ℕ) (cs : List ℤ) (ks : List ℕ) (out : List ℤ) where
   checks = inOrder (turningBackChecks n (lent cs ks) (length out))
 
   -- A refusal leaves the hours as they were.
-  refused : (why : Refusal) → checks ≡ refuses why → TurnedBack n cs ks out out (Taking.Refused why)
-  refused why e = record { answer = rw e; hours = rw e }
-
-  pub bad-hours : badHours n ≡ true → TurnedBack n cs ks out out (Taking.Refused refusal.BadHours)
-  bad-hours b = refused refusal.BadHours (checked.bad-hours n cs ks (length out) n b)
-
-  module _ (good : badHours n ≡ false) where
-    abbrev Short : Type 0
-    Short = TurnedBack n cs ks out out (Taking.Refused refusal.ShortBuffer)
-
-    pub short-table : tableShort n (lent cs ks) ≡ true → Short
-    short-table h = refused refusal.ShortBuffer (checked.short-table n cs ks (length out) n good h)
-
-    pub few-hours : tableShort n (lent cs ks) ≡ false → length out < n → Short
-    few-hours room h = refused refusal.ShortBuffer (checked.short-buffer n cs ks (length out) n good room h)
+  pub refused : {why : Refusal} → checks ≡ refuses why → TurnedBack n cs ks out out (Taking.Refused why)
+  refused e = record { answer = rw e; hours = rw e }
 
   -- Only the table itself is still to examine.
   module _ (h : Enough n cs ks (length out) n) where
@@ -45,7 +32,7 @@ module _ (n : ℕ) (cs : List ℤ) (ks : List ℕ) (out : List ℤ) where
 
     pub unsound-refused : (r : Verdict) → checkOf r ≡ examineTable n (lent cs ks) → (i : NodeId) → r ≡ Verdict.Unsound i
         → TurnedBack n cs ks out out (Taking.Refused (refusal.Unsound i))
-    unsound-refused r e i g = refused (refusal.Unsound i) (examined ∙ sym (rw g at e))
+    unsound-refused r e i g = refused (examined ∙ sym (rw g at e))
 
     module _ (r : Verdict) (e : checkOf r ≡ examineTable n (lent cs ks)) (g : r ≡ Verdict.Sound) where
       abbrev taken : examineTable n (lent cs ks) ≡ passes

@@ -6,8 +6,8 @@ use Rattle.words.specs.declared.Range.{Range}
 use Rattle.om3.specs.Document.{every, Node, left, right, Table, lent, leftHalf, rightHalf, firstOfPair, secondOfPair}
 use Rattle.om3.specs.Document.{reached, soundDetails, soundCode, soundNode, nodesBelow}
 use Rattle.node.specs.{Located.Located, Steps.halvesOf, Steps.pairOf}
-use Rattle.om3.proofs.{Tests.and-left, Tests.and-right, Nodes.pair-yes, Nodes.pair-no, Reached.reached-left}
-use Rattle.om3.proofs.{Reached.reached-right, NodeLists.every-append}
+use Rattle.laws.proofs.{Tests.and-left, Tests.and-right, Nodes.pair-yes, Nodes.pair-no, Reached.reached-left}
+use Rattle.laws.proofs.{Reached.reached-right, NodeLists.every-append}
 use Rattle.node.proofs.Located.{one-more, above-pairs, at-pair, left-located, right-located}
 use Rattle.node.specs.declared.Halves.{Halves}
 use Rattle.turning.specs.Turning.{withHours, Written, PairWritten}

@@ -1,4 +1,3 @@
 -- What a view holds, and what it answers.
-pub mod ByHand
 pub mod Viewed
 pub mod Clauses

@@ -3,7 +3,7 @@ use Rattle.kit.proofs.{_≡_, refl, sym, _∙_, List, ℕ, _+_, _*_, _≤_, _<_
 use Rattle.words.specs.declared.{Refusal.Refusal, Refusal.the-variants.BadPlace, Opening.Opening, Asking.Asking}
 use Rattle.om3.specs.Document.{P, Check, passes, refuses, inOrder, answerBy, headerSize, hoursIn, coefficientIn}
 use Rattle.om3.specs.Document.{openingChecks, opening, askingView, asking}
-use Rattle.om3.proofs.RecordsOpened.{opens-formed}
+use Rattle.laws.proofs.RecordsOpened.{opens-formed}
 use Rattle.opening.proofs.Asked.{opened-asked, past-places}
 use Rattle.view.specs.View.{viewPlaces}
 

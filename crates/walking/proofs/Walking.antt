@@ -7,16 +7,16 @@ use Rattle.words.specs.{lowOf, Readings, declared.Range.the-variants.Held, decl
 use Rattle.words.specs.declared.{Column.Column, NodeId.NodeId, Range.Range, Range.the-variants.Empty}
 use Rattle.om3.specs.Document.{Node, number, left, right, Table, lent, reached, inOrder, soundNode, walkNodes, walkEnd}
 use Rattle.om3.specs.Document.{readingAt}
-use Rattle.om3.proofs.{Tests.below-or-not, Nodes.width-half, Nodes.start-hour, Intervals.width-some}
+use Rattle.laws.proofs.{Tests.below-or-not, Nodes.width-half, Nodes.start-hour, Intervals.width-some}
 use Rattle.node.proofs.{Located.above-hours, Told.back}
 use Rattle.node.specs.declared.Halves.{Halves}
 use Rattle.examining.proofs.Answers.{Stepped, stepped, not-stepped}
-use Rattle.walking.specs.Nodes.{At, Below, isPairOf, leftReached, rightReached}
-use Rattle.walking.specs.Visiting.{Steps, SteppedDown, SteppedFrom}
-use Rattle.walking.specs.declared.{Reached.Reached, Towards.Towards, Walked.Walked}
+use Rattle.stepping.specs.Nodes.{At, Below, isPairOf, leftReached, rightReached}
+use Rattle.stepping.specs.{Stepping.Steps, Stepping.SteppedDown, Stepping.SteppedFrom, declared.Reached.Reached}
+use Rattle.stepping.proofs.Lending.{steps, small-number, some-hours, ends-within, left-below, right-below}
+use Rattle.stepping.proofs.Touching.{left-at, right-at}
+use Rattle.walking.specs.declared.{Towards.Towards, Walked.Walked}
 use Rattle.walking.specs.Walking.{takesLeft, towards, Walks, Small, WalkedFrom}
-use Rattle.walking.proofs.Touching.{left-at, right-at}
-use Rattle.walking.proofs.Lending.{steps, small-number, some-hours, ends-within, left-below, right-below}
 
 not-came : {i : NodeId} {r : Reading} {m : ℕ} → Walked.Unsound i ≡ Walked.Came r m → ⊥
 not-came e = let z : _≡_ {A = ℕ} 0 1 = cc in omega arith

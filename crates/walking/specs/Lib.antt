@@ -1,6 +1,2 @@
--- What going down a table for a column promises, in reading order.
-pub mod Nodes
-pub mod Seen
-pub mod Visiting
-pub mod Narrowing
+-- What the walk to a reading promises.
 pub mod Walking

@@ -23,8 +23,8 @@ use Rattle.om3.specs.Table.{Table, lent}
 use Rattle.om3.specs.Checks.{Check, passes, refuses}
 use Rattle.om3.specs.Sound.{examineNodes}
 use Rattle.om3.specs.Finished.{walkNodes, walkEnd, towardsFirst, towardsLast, readingAt}
-use Rattle.walking.specs.Nodes.{At}
-use Rattle.walking.specs.declared.Reached.{Reached}
+use Rattle.stepping.specs.Nodes.{At}
+use Rattle.stepping.specs.declared.Reached.{Reached}
 use Rattle.walking.specs.declared.Towards.{Towards}
 use Rattle.walking.specs.declared.Walked.{Walked}
 

@@ -6,7 +6,7 @@ use Rattle.words.specs.{largestHours, mostColumns}
 use Rattle.words.specs.declared.{Refusal.Refusal, Column.Column, Edges.Edges}
 use Rattle.words.specs.declared.Refusal.the-variants.{BadHours, BadWindow, BadColumn}
 use Rattle.om3.specs.Document.{badHours, Check, passes, refuses, inOrder, answerBy, column, edgesChecks, edges}
-use Rattle.om3.proofs.Tests.{and-left, and-right, neither}
+use Rattle.laws.proofs.Tests.{and-left, and-right, neither}
 use Rattle.windows.specs.Windows.{Edged, windowCheck}
 
 -- Checks 5 and 6.

@@ -4,8 +4,8 @@ use Rattle.kit.proofs.{length-append, length-drop, length-take-le, take-all}
 use Rattle.words.specs.{version}
 use Rattle.om3.specs.Document.{P, lent, filled, bytesOf, threeBytes, lengthFor, recordLength, headerOf, headerSize}
 use Rattle.om3.specs.Document.{recordOf}
-use Rattle.om3.proofs.Filled.{filled-length, filled-part, filled-set, filled-tail}
-use Rattle.om3.proofs.{Bytes.bytes-length, ThreeBytes.threes-size, Records.header-size}
+use Rattle.laws.proofs.Filled.{filled-length, filled-part, filled-set, filled-tail}
+use Rattle.laws.proofs.{Bytes.bytes-length, ThreeBytes.threes-size, Records.header-size}
 use Rattle.writing.specs.Writing.{Ready}
 
 module _ (stated n : ℕ) (old : List ℕ) (long : headerSize ≤ length old) where

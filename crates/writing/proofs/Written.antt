@@ -1,39 +1,41 @@
 -- Each answer of writing a record: its checks in their order, and the record of a sound table. Assumes nothing.
-use Rattle.kit.proofs.{_≡_, sym, _∙_, true, false, List, ℕ, _+_, _/_, _<_, le-refl, arith, ℤ, pos, length, take}
+use Rattle.kit.proofs.{_≡_, sym, _∙_, List, ℕ, _+_, _/_, _≤_, _<_, le-refl, arith, ℤ, pos, length, take}
 use Rattle.kit.proofs.{length-take-le, getD-take, take-take}
 use Rattle.words.specs.declared.{NodeId.NodeId, Refusal.Refusal, Writing.Writing}
 use Rattle.words.specs.declared.Refusal.the-variants as refusal
-use Rattle.om3.specs.Document.{badHours, levels, P, lent, Check, passes, refuses, inOrder, tableShort, examineTable}
+use Rattle.om3.specs.Document.{levels, P, lent, Check, passes, refuses, inOrder, examineTable}
 use Rattle.om3.specs.Document.{filled, lengthFor, recordSize, recordOf, writingChecks}
-use Rattle.sizes.specs.Lent.{Enough}
-use Rattle.om3.proofs.{Making.good-some, Levels.levels-some, Examined.examine-sound, Threes.sound-threes}
+use Rattle.sizes.specs.Lent.{TableLent, Enough}
+use Rattle.laws.proofs.{Making.good-some, Levels.levels-some, Examined.examine-sound, Threes.sound-threes}
 use Rattle.sizes.proofs.TableChecks as checked
 use Rattle.packing.specs.Packing.{EachInThree}
 use Rattle.examining.specs.declared.Verdict.{Verdict}
 use Rattle.examining.specs.Examining.{checkOf}
 use Rattle.writing.specs.Writing.{Ready, RecordWritten}
 
+-- The size that is asked for is the record's.
+module _ (n : ℕ) {p size : ℕ} (places : p ≡ P n) (sized : size ≡ 4 + lengthFor p) where
+  pub under-record : {b : ℕ} → b < size → b < recordSize n
+  under-record h = let e : size ≡ recordSize n = rw places at sized in omega arith
+
+  pub record-fits : {b : ℕ} → size ≤ b → recordSize n ≤ b
+  record-fits h = let e : size ≡ recordSize n = rw places at sized in omega arith
+
+-- The buffers have the coefficients and the codes that are put.
+module _ {n p : ℕ} {cs : List ℤ} {ks : List ℕ} (places : p ≡ P n) (table : TableLent n cs ks) where
+  pub coefficients-put : p ≡ length (take p cs)
+  coefficients-put = sym (length-take-le p cs (rw places (table .coefficients)))
+
+  pub codes-put : p / 2 ≡ length (take (p / 2) ks)
+  codes-put = sym (length-take-le (p / 2) ks (rw places (table .codes)))
+
 module _ (n : ℕ) (cs : List ℤ) (ks out : List ℕ) where
   abbrev checks : Check
   checks = inOrder (writingChecks n (lent cs ks) (length out))
 
   -- A refusal leaves the bytes as they were.
-  refused : (why : Refusal) → checks ≡ refuses why → RecordWritten n cs ks out out (Writing.Refused why)
-  refused why e = record { answer = rw e; bytes = rw e }
-
-  pub bad-hours : badHours n ≡ true → RecordWritten n cs ks out out (Writing.Refused refusal.BadHours)
-  bad-hours b = refused refusal.BadHours (checked.bad-hours n cs ks (length out) (recordSize n) b)
-
-  module _ (good : badHours n ≡ false) where
-    abbrev Short : Type 0
-    Short = RecordWritten n cs ks out out (Writing.Refused refusal.ShortBuffer)
-
-    pub short-table : tableShort n (lent cs ks) ≡ true → Short
-    short-table h = refused refusal.ShortBuffer (checked.short-table n cs ks (length out) (recordSize n) good h)
-
-    pub few-bytes : tableShort n (lent cs ks) ≡ false → length out < recordSize n → Short
-    few-bytes room h =
-        refused refusal.ShortBuffer (checked.short-buffer n cs ks (length out) (recordSize n) good room h)
+  pub refused : {why : Refusal} → checks ≡ refuses why → RecordWritten n cs ks out out (Writing.Refused why)
+  refused e = record { answer = rw e; bytes = rw e }
 
   -- Only the table itself is still to examine.
   module _ (h : Enough n cs ks (length out) (recordSize n)) where
@@ -42,7 +44,7 @@ module _ (n : ℕ) (cs : List ℤ) (ks out : List ℕ) where
 
     pub unsound-refused : (r : Verdict) → checkOf r ≡ examineTable n (lent cs ks) → (i : NodeId) → r ≡ Verdict.Unsound i
         → RecordWritten n cs ks out out (Writing.Refused (refusal.Unsound i))
-    unsound-refused r e i g = refused (refusal.Unsound i) (examined ∙ sym (rw g at e))
+    unsound-refused r e i g = refused (examined ∙ sym (rw g at e))
 
     module _ (r : Verdict) (e : checkOf r ≡ examineTable n (lent cs ks)) (g : r ≡ Verdict.Sound)
         (p : ℕ) (pe : p ≡ P n) where

@@ -1,10 +1,10 @@
 -- `finished_over` visits the table, and walks from the first and the last inner node if there are some. Assumes
 -- nothing.
 use Rattle.kit.proofs.{refl, arith, needs}
-use Rattle.om3.proofs.Levels.{P-most}
-use Rattle.walking.proofs.Lending.{whole-lent}
-use Rattle.walking.specs.Visiting.{TableVisited}
-use Rattle.walking.specs.declared.Visited.{Visited}
+use Rattle.laws.proofs.Levels.{P-most}
+use Rattle.stepping.proofs.Lending.{whole-lent}
+use Rattle.visiting.specs.Visiting.{TableVisited}
+use Rattle.visiting.specs.declared.Visited.{Visited}
 use Rattle.columns.proofs.Finishing as laws
 use Rattle.columns.proofs.finished_over.Statement.{statement}
 use Rattle.columns.proofs.finished_over.Tie as tie
@@ -17,9 +17,6 @@ through : (c : tie.After-seen) →
     (let a = hour-at c .before .before .before .args in
     TableVisited (a .n) (a .coefficients .now) (a .codes .now) (a .x) 1 (Visited.Through (c .seen .given .0 .0)))
 through c = rw (c .seen .given .1) at (c .before .before .visit-table .ensures)
-
-returns : tie.Need-returns
-returns c = laws.finished-none _ _ _ _ (c .if1 .taken)
 
 visit-table-requires : tie.Need-visit-table-requires
 visit-table-requires c κs =
@@ -64,5 +61,6 @@ returns-4 c =
 pub finished-over-spec : {M : Type 1} → statement M
 finished-over-spec =
     tie.close
-    (tie.spec returns visit-table-requires (λ c. search needs) (λ c. search needs) count-of-requires
-    (λ c. search needs) (λ c. search needs) found-requires returns-2 returns-3 returns-4)
+    (tie.spec (λ c. laws.finished-none _ _ _ _ (c .if1 .taken)) visit-table-requires (λ c. search needs)
+    (λ c. search needs) count-of-requires (λ c. search needs) (λ c. search needs) found-requires returns-2 returns-3
+    returns-4)

@@ -1,7 +1,7 @@
 -- `found` walks to the first reading and, if it came there, to the last. Assumes nothing.
 use Rattle.kit.proofs.{refl, arith, needs}
 use Rattle.signed.proofs.{reads-back}
-use Rattle.walking.proofs.Lending.{ends-within}
+use Rattle.stepping.proofs.Lending.{ends-within}
 use Rattle.walking.specs.{Walking.WalkedFrom, declared.Walked.Walked, declared.Towards.Towards}
 use Rattle.columns.proofs.Founding as laws
 use Rattle.columns.proofs.found.Statement.{statement}

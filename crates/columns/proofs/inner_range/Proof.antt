@@ -3,8 +3,7 @@ use borrow.Author.Needs.{needs}
 use Rattle.columns.proofs.inner_range.Statement.{statement}
 use Rattle.columns.proofs.inner_range.Tie as tie
 
-returns-2 : tie.Need-returns-2
-returns-2 c = rw (c .before .inner .given .1)
-
 pub inner-range-spec : {M : Type 1} → statement M
-inner-range-spec = tie.close (tie.spec (λ c. search needs) (λ c. search needs) (λ c. search needs) returns-2)
+inner-range-spec =
+    tie.close
+    (tie.spec (λ c. search needs) (λ c. search needs) (λ c. search needs) (λ c. rw (c .before .inner .given .1)))

@@ -2,7 +2,7 @@
 -- nothing.
 use Rattle.kit.proofs.{_≡_, _-_, _/_, _^_, _≤_, arith, pow-pos, needs}
 use Rattle.om3.specs.Document.{levels}
-use Rattle.walking.proofs.Lending.{whole-lent}
+use Rattle.stepping.proofs.Lending.{whole-lent}
 use Rattle.columns.proofs.Depths as depths
 use Rattle.columns.proofs.Stopping as laws
 use Rattle.columns.proofs.stopped_at.Statement.{statement}

@@ -1,8 +1,8 @@
 -- `stopped_over` visits the table and counts what was opened. Assumes nothing.
 use Rattle.kit.proofs.{refl, arith, needs}
-use Rattle.om3.proofs.Levels.{P-most}
-use Rattle.walking.specs.Visiting.{TableVisited}
-use Rattle.walking.specs.declared.Visited.{Visited}
+use Rattle.laws.proofs.Levels.{P-most}
+use Rattle.visiting.specs.Visiting.{TableVisited}
+use Rattle.visiting.specs.declared.Visited.{Visited}
 use Rattle.columns.proofs.Stopping as laws
 use Rattle.columns.proofs.stopped_over.Statement.{statement}
 use Rattle.columns.proofs.stopped_over.Tie as tie
@@ -16,9 +16,6 @@ through : (c : tie.After-seen) →
     TableVisited (a .n) (a .coefficients .now) (a .codes .now) (a .x) (a .stop)
     (Visited.Through (c .seen .given .0 .0)))
 through c = rw (c .seen .given .1) at (c .before .before .visit-table .ensures)
-
-returns : tie.Need-returns
-returns c = laws.stopped-none _ _ _ _ _ (c .if1 .taken)
 
 count-of-requires : tie.Need-count-of-requires
 count-of-requires c κs =
@@ -41,5 +38,5 @@ returns-3 c =
 pub stopped-over-spec : {M : Type 1} → statement M
 stopped-over-spec =
     tie.close
-    (tie.spec returns (λ c κs. search needs) (λ c. search needs) (λ c. search needs) (λ c κs. search needs)
-    count-of-requires returns-2 returns-3)
+    (tie.spec (λ c. laws.stopped-none _ _ _ _ _ (c .if1 .taken)) (λ c κs. search needs) (λ c. search needs)
+    (λ c. search needs) (λ c κs. search needs) count-of-requires returns-2 returns-3)

@@ -2,7 +2,7 @@
 use Rattle.kit.proofs.{_*_, _≤_, arith, needs}
 use Rattle.words.specs.{dayHours}
 use Rattle.sizes.specs.Lent.{Passed}
-use Rattle.om3.proofs.Making.{good-some}
+use Rattle.laws.proofs.Making.{good-some}
 use Rattle.days.proofs.Changing as laws
 use Rattle.days.proofs.day_change.Statement.{statement}
 use Rattle.days.proofs.day_change.Tie as tie

@@ -1,6 +1,6 @@
 -- `examine` examines node 0, which gives node 1 its range, and then node 1 and all below it. Assumes nothing.
 use Rattle.kit.proofs.{_≡_, refl, arith, pos, getD, needs}
-use Rattle.om3.proofs.Levels.{2≤P}
+use Rattle.laws.proofs.Levels.{2≤P}
 use Rattle.node.specs.declared.Root.{Root}
 use Rattle.node.specs.Steps.{rootOf}
 use Rattle.examining.proofs.AtRoot as laws

@@ -1,7 +1,7 @@
 -- `stretch` makes the tests of the definition, powers of two for levels. Assumes nothing.
 use Rattle.kit.proofs.{_≡_, sym, _∙_, false, arith, needs}
 use Rattle.om3.specs.Document.{badHours}
-use Rattle.om3.proofs.Making.{good-some}
+use Rattle.laws.proofs.Making.{good-some}
 use Rattle.level.proofs.stretch.Statement.{statement}
 use Rattle.level.proofs.stretch.Tie as tie
 use Rattle.level.proofs.Stretches as laws

@@ -1,7 +1,7 @@
 -- `signed_of` takes 2^24 away from what is at least half of it. Assumes nothing.
 use Rattle.kit.proofs.{sym, _∙_, arith, needs, w32, toZ-ofZ, toZ-pos}
 use Rattle.signed.proofs.{signed}
-use Rattle.om3.proofs.ThreeBytes.{signed-low}
+use Rattle.laws.proofs.ThreeBytes.{signed-low}
 use Rattle.packing.proofs.Threes.{signed-above}
 use Rattle.packing.proofs.signed_of.Statement.{statement}
 use Rattle.packing.proofs.signed_of.Tie as tie

@@ -17,16 +17,6 @@ opened c =
 lent-bytes : (c : tie.After-open-record) → Bytes (c .before .before .before .args .bytes .now)
 lent-bytes c p h = omega (arith, c .before .before .shared-slice-known .given p)
 
-mul-at : tie.Need-mul-at
-mul-at c =
-    let start = c .before .before .before .before .before .before in
-    omega (arith, laws.record-length _ _ _ (opened c), start .good)
-
-add-at : tie.Need-add-at
-add-at c =
-    let start = c .before .before .before .before .before .before in
-    omega (arith, laws.record-length _ _ _ (opened c), start .good)
-
 returns : tie.Need-returns
 returns c =
     let read = c .before .before .before in
@@ -43,7 +33,10 @@ returns-2 c =
 pub read-record-spec : {M : Type 1} → statement M
 read-record-spec =
     tie.close
-    (tie.spec (λ c κs. search needs) (λ c. search needs) mul-at add-at (λ c. search needs) (λ c. search needs)
+    (tie.spec (λ c κs. search needs) (λ c. search needs)
+    (λ c. omega (arith, laws.record-length _ _ _ (opened c), c .before .before .before .before .before .before .good))
+    (λ c. omega (arith, laws.record-length _ _ _ (opened c), c .before .before .before .before .before .before .good))
+    (λ c. search needs) (λ c. search needs)
     (λ c. omega (arith, laws.record-length _ _ _ (opened c)))
     (λ c. omega (arith, laws.record-length _ _ _ (opened (c .before))))
     (λ c. omega (arith, laws.record-length _ _ _ (opened (c .before)))) (λ c. search needs)

@@ -1,8 +1,8 @@
 -- `bytes_needed` tells the size of the record where check 1 passes, and 0 where it does not. Assumes nothing.
 use Rattle.kit.proofs.{_≡_, sym, ap, _∙_, true, false, ℕ, _+_, needs}
 use Rattle.om3.specs.Document.{badHours, lengthFor}
-use Rattle.om3.proofs.Making.{good-some}
-use Rattle.om3.proofs.Levels.{P-most}
+use Rattle.laws.proofs.Making.{good-some}
+use Rattle.laws.proofs.Levels.{P-most}
 use Rattle.sizes.proofs.bytes_needed.Statement.{statement}
 use Rattle.sizes.proofs.bytes_needed.Tie as tie
 

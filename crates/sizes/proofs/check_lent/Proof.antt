@@ -1,7 +1,7 @@
 -- `check_lent` makes checks 1 and 3 in their order. Assumes nothing.
 use Rattle.kit.proofs.{_≡_, sym, _∙_, false, needs}
 use Rattle.om3.specs.Document.{badHours, lent, tableShort}
-use Rattle.om3.proofs.Making.{good-some}
+use Rattle.laws.proofs.Making.{good-some}
 use Rattle.sizes.proofs.Lent as laws
 use Rattle.sizes.proofs.check_lent.Statement.{statement}
 use Rattle.sizes.proofs.check_lent.Tie as tie

@@ -2,7 +2,7 @@
 use Rattle.kit.proofs.{_≡_, _-_, arith, needs}
 use lib.Count.{leadingZeros, leading-le}
 use Rattle.om3.specs.Document.{levels}
-use Rattle.om3.proofs.Levels.{levels-most}
+use Rattle.laws.proofs.Levels.{levels-most}
 use Rattle.sizes.proofs.Powers.{two-places, bits-levels, shifted}
 use Rattle.sizes.proofs.places.Statement.{statement}
 use Rattle.sizes.proofs.places.Tie as tie

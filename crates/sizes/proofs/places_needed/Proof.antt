@@ -1,7 +1,7 @@
 -- `places_needed` tells P where check 1 passes, and 0 where it does not. Assumes nothing.
 use Rattle.kit.proofs.{_≡_, sym, _∙_, true, false, needs}
 use Rattle.om3.specs.Document.{badHours}
-use Rattle.om3.proofs.Making.{good-some}
+use Rattle.laws.proofs.Making.{good-some}
 use Rattle.sizes.proofs.places_needed.Statement.{statement}
 use Rattle.sizes.proofs.places_needed.Tie as tie
 

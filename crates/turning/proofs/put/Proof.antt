@@ -8,10 +8,8 @@ use Rattle.turning.proofs.put.Tie as tie
 returns : tie.Need-returns
 returns c = let low = c .low-of in rw (reads-back (low .result) (low .ok) ∙ low .ensures)
 
-returns-2 : tie.Need-returns-2
-returns-2 c = sym (set-out _ _ _ (c .if1 .left))
-
 pub put-spec : {M : Type 1} → statement M
 put-spec =
     tie.close
-    (tie.spec (λ c κs. search needs) (λ c. search needs) (λ c. search needs) (λ c. search needs) returns returns-2)
+    (tie.spec (λ c κs. search needs) (λ c. search needs) (λ c. search needs) (λ c. search needs) returns
+    (λ c. sym (set-out _ _ _ (c .if1 .left))))

@@ -4,8 +4,5 @@ use Rattle.kit.proofs.{sym, ℕ, length-replicate}
 use Rattle.vector_lines.proofs.no_text.Statement.{statement}
 use Rattle.vector_lines.proofs.no_text.Tie as tie
 
-returns : tie.Need-returns
-returns c = sym (length-replicate {0} {A = ℕ} _ 0)
-
 pub no-text-spec : {M : Type 1} → statement M
-no-text-spec = tie.close (tie.spec returns)
+no-text-spec = tie.close (tie.spec (λ c. sym (length-replicate {0} {A = ℕ} _ 0)))

@@ -1,6 +1,6 @@
 -- `edges` makes check 1, and then checks 5 and 6 and both edges. Assumes nothing.
 use Rattle.kit.proofs.{sym, _∙_, needs}
-use Rattle.om3.proofs.Making.{good-some}
+use Rattle.laws.proofs.Making.{good-some}
 use Rattle.windows.proofs.Windows as laws
 use Rattle.windows.proofs.edges.Statement.{statement}
 use Rattle.windows.proofs.edges.Tie as tie

@@ -1,6 +1,6 @@
 -- `put_record` puts the header, the coefficients after it, and the codes after those. Assumes nothing.
 use Rattle.kit.proofs.{arith, needs}
-use Rattle.om3.proofs.Levels.{P-most}
+use Rattle.laws.proofs.Levels.{P-most}
 use Rattle.writing.proofs.Put as laws
 use Rattle.writing.proofs.put_record.Statement.{statement}
 use Rattle.writing.proofs.put_record.Tie as tie

@@ -4,9 +4,9 @@ use Rattle.signed.proofs.{signed}
 use Rattle.vector_lines.proofs.input.grams_of.Statement.{statement}
 use Rattle.vector_lines.proofs.input.grams_of.Tie as tie
 
-sub-result : tie.Need-sub-result
-sub-result c = omega (signed, toZ-pos w32 {n = c .before .before .args .x .size} (omega arith))
-
 pub grams-of-spec : {M : Type 1} → statement M
 grams-of-spec =
-    tie.close (tie.spec (λ c. search needs) (λ c. search needs) sub-result (λ c. search needs) (λ c. search needs))
+    tie.close
+    (tie.spec (λ c. search needs) (λ c. search needs)
+    (λ c. omega (signed, toZ-pos w32 {n = c .before .before .args .x .size} (omega arith))) (λ c. search needs)
+    (λ c. search needs))

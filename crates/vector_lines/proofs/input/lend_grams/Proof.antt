@@ -5,14 +5,9 @@ use Rattle.vector_lines.proofs.input.lend_grams.Statement.{statement}
 use Rattle.vector_lines.proofs.input.lend_grams.Tie as tie
 use Rattle.vector_lines.proofs.Within.{within}
 
-lent-prefix : tie.Need-slice-aggregate-fill-grams
-lent-prefix c = within _ _ (c .before .length-of .ensures) .1
-
-returns : tie.Need-returns
-returns c = within _ _ (omega arith)
-
 pub lend-grams-spec : {M : Type 1} → statement M
 lend-grams-spec =
     tie.close
-    (tie.spec (λ c κs. search needs) (λ c κs. search needs) (λ c. search needs) lent-prefix (λ c κs. search needs)
-    (λ c. search needs) returns)
+    (tie.spec (λ c κs. search needs) (λ c κs. search needs) (λ c. search needs)
+    (λ c. within _ _ (c .before .length-of .ensures) .1) (λ c κs. search needs) (λ c. search needs)
+    (λ c. within _ _ (omega arith)))

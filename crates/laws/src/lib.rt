@@ -1,0 +1,1 @@
+// Why the definitions of om3 are right: laws, in proofs/. There is no code here.

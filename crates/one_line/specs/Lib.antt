@@ -1,0 +1,2 @@
+-- What the functions that read one line promise.
+pub mod Lines

@@ -1,0 +1,2 @@
+-- What is seen at the nodes of a column.
+pub mod Seen
