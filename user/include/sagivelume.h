@@ -30,8 +30,8 @@
 #include <stdint.h>
 
 /* The version of this header and its library; as a number it is 10000 * major + 100 * minor + patch. */
-#define SAGIVELUME_VERSION "0.1.0"
-#define SAGIVELUME_VERSION_NUMBER 100
+#define SAGIVELUME_VERSION "0.2.0"
+#define SAGIVELUME_VERSION_NUMBER 200
 
 #define SAGIVELUME_LARGEST_HOURS 16384
 #define SAGIVELUME_LARGEST_READING 1000000
@@ -275,8 +275,10 @@ struct sagivelume_told_answer sagivelume_join(
     struct sagivelume_told_answer left,
     struct sagivelume_told_answer right);
 
-/* Answers the last reading of a day minus its first; day d has the hours 24d to 24d + 23, cut at n. Reads P
- * coefficients and P/2 codes. Refusals 1, 3, 5, 4. */
+/* Answers the change of a day: its last reading minus the latest reading before that day, of whatever day; with none
+ * earlier, minus its own first. So the changes of all days add up to the series' last reading minus its first. Day d
+ * has the hours 24d to 24d + 23, cut at n. Reads P coefficients and P/2 codes. Refusals 1, 3, 5, 4, the last first of
+ * the day's hours and then, if it has a reading, of those before it. */
 struct sagivelume_told_change sagivelume_day_change(
     size_t n,
     const int32_t *coefficients, size_t coefficients_length,

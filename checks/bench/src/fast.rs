@@ -14,7 +14,7 @@ mod printer;
 mod record;
 mod scratch;
 
-pub use column::{finished, stopped};
+pub use column::{day_change, finished, stopped};
 pub use examine::turn_back;
 pub use make::make;
 pub use printer::print;

@@ -1,5 +1,5 @@
 //! What the proved store's speed is measured beside: the same calls in plain Rust and in Rust written for speed, and
-//! for columns a scan of the readings; and the work that every side is given.
+//! for columns and days a scan of the readings; and the work that every side is given.
 
 mod head;
 pub mod words;

@@ -2,10 +2,12 @@
 
 use second::random::Random;
 
-use crate::words::{GAP, MOST_HOURS};
+use crate::words::{DAY, GAP, MOST_HOURS};
 
 /// The hours of the series.
 pub const N: usize = MOST_HOURS;
+/// The days of the series.
+pub const DAYS: usize = N.div_ceil(DAY);
 /// The columns of each window.
 pub const W: usize = 1_024;
 /// So many windows are drawn beside the whole series.
@@ -19,7 +21,7 @@ pub fn season() -> Vec<i32> {
     let mut weight = 38_000;
     (0..N)
         .map(|hour| {
-            let (day, hour_of_day) = (hour / 24, hour % 24);
+            let (day, hour_of_day) = (hour / DAY, hour % DAY);
             let flow = [2, 9, 25, 14, -3, -6][day / 20 % 6];
             weight += flow + random.between(-8, 8);
             let away = if (8..19).contains(&hour_of_day) { 600 } else { 0 };

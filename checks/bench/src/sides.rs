@@ -2,7 +2,7 @@
 
 use std::hint::black_box;
 
-use crate::season::{Window, N, W};
+use crate::season::{Window, DAYS, N, W};
 use crate::words::{self, Finished, LowHigh, Stopped};
 use crate::work::{Work, Written, L, RECORD};
 use crate::{fast, plain, scan};
@@ -13,7 +13,7 @@ pub struct Proved;
 pub struct Plain;
 /// Rust written for speed.
 pub struct Fast;
-/// A scan of the readings, for columns alone.
+/// A scan of the readings, for columns and days alone.
 pub struct Scan;
 
 /// The calls on a whole table. Each tells whether it was taken.
@@ -30,14 +30,19 @@ pub trait Store {
     fn finished(table: &Written, window: Window, k: usize) -> Option<Finished>;
     /// A column stopped at depth l, if it is taken.
     fn stopped(table: &Written, window: Window, k: usize) -> Option<Stopped>;
+    /// The change of a day, if it is taken.
+    fn day_change(table: &Written, day: usize) -> Option<Option<i32>>;
 }
 
-/// Drawing every column of some windows. Each tells whether all were taken.
-pub trait Columns {
+/// Every column of some windows, and every day. Each tells whether all were taken. None is inlined, so that what the
+/// compiler makes of one does not depend on the others.
+pub trait Parts {
     /// The columns finished.
     fn draw_finished(work: &Work, windows: &[Window]) -> bool;
     /// The columns stopped at depth l.
     fn draw_stopped(work: &Work, windows: &[Window]) -> bool;
+    /// The changes of the days.
+    fn change_days(work: &Work) -> bool;
 }
 
 /// Whether every column of some windows is taken.
@@ -88,9 +93,14 @@ macro_rules! store {
                 let range = |$words::LowHigh { low, high }| LowHigh { low, high };
                 Some(Stopped { outer: told.outer.map(range), inner: told.inner.map(range), count: told.count })
             }
+
+            fn day_change(table: &Written, day: usize) -> Option<Option<i32>> {
+                $store::day_change(N, &table.coefficients, &table.codes, day).ok()
+            }
         }
 
-        impl Columns for $side {
+        impl Parts for $side {
+            #[inline(never)]
             fn draw_finished(Work { written, .. }: &Work, windows: &[Window]) -> bool {
                 all_columns(windows, |(a, b), k| {
                     let (n, column) = black_box((N, $words::Column { a, b, w: W, k }));
@@ -99,11 +109,21 @@ macro_rules! store {
                 })
             }
 
+            #[inline(never)]
             fn draw_stopped(Work { written, .. }: &Work, windows: &[Window]) -> bool {
                 all_columns(windows, |(a, b), k| {
                     let (n, column) = black_box((N, $words::Column { a, b, w: W, k }));
                     let (coefficients, codes) = black_box((&written.coefficients, &written.codes));
                     black_box($store::stopped(n, coefficients, codes, column, L)).is_ok()
+                })
+            }
+
+            #[inline(never)]
+            fn change_days(Work { written, .. }: &Work) -> bool {
+                (0..DAYS).all(|day| {
+                    let (n, day) = black_box((N, day));
+                    let (coefficients, codes) = black_box((&written.coefficients, &written.codes));
+                    black_box($store::day_change(n, coefficients, codes, day)).is_ok()
                 })
             }
         }
@@ -114,7 +134,8 @@ store!(Proved, sagivelume, sagivelume);
 store!(Plain, plain, words);
 store!(Fast, fast, words);
 
-impl Columns for Scan {
+impl Parts for Scan {
+    #[inline(never)]
     fn draw_finished(Work { readings, .. }: &Work, windows: &[Window]) -> bool {
         all_columns(windows, |(a, b), k| {
             let (n, column) = black_box((N, words::Column { a, b, w: W, k }));
@@ -122,10 +143,19 @@ impl Columns for Scan {
         })
     }
 
+    #[inline(never)]
     fn draw_stopped(Work { readings, .. }: &Work, windows: &[Window]) -> bool {
         all_columns(windows, |(a, b), k| {
             let (n, column) = black_box((N, words::Column { a, b, w: W, k }));
             black_box(scan::stopped(n, black_box(readings), column)).is_ok()
+        })
+    }
+
+    #[inline(never)]
+    fn change_days(Work { readings, .. }: &Work) -> bool {
+        (0..DAYS).all(|day| {
+            let (n, day) = black_box((N, day));
+            black_box(scan::day_change(n, black_box(readings), day)).is_ok()
         })
     }
 }

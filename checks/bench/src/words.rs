@@ -5,6 +5,8 @@ use std::ops::Range;
 
 /// A series has at most this many hours.
 pub const MOST_HOURS: usize = 16_384;
+/// A day has this many hours, the last of a series perhaps fewer.
+pub const DAY: usize = 24;
 /// A window is drawn in at most this many columns.
 pub const MOST_COLUMNS: usize = 4_096;
 /// Readings run from minus this many grams to this many.
@@ -137,6 +139,12 @@ impl Column {
 pub fn edges(n: usize, column: Column) -> Result<Range<usize>, Refusal> {
     needed_coefficients(n)?;
     column.hours(n)
+}
+
+/// The hours of a day, those from n on left out, or refusal 5 if none is left.
+pub(crate) fn hours_of_day(n: usize, day: usize) -> Result<Range<usize>, Refusal> {
+    let first = day.checked_mul(DAY).filter(|&first| first < n).ok_or(Refusal::WINDOW)?;
+    Ok(first..n.min(first + DAY))
 }
 
 /// The answer of a column stopped at a depth.

@@ -2,7 +2,7 @@
 
 use crate::head::record_size;
 use crate::season::{drawn_windows, season, Window, N};
-use crate::sides::{Columns, Fast, Plain, Proved, Scan, Store};
+use crate::sides::{Fast, Parts, Plain, Proved, Scan, Store};
 
 /// The depth of stopped columns: l.
 pub const L: usize = N.ilog2() as usize;
@@ -18,7 +18,7 @@ pub enum Side {
     Plain,
     /// Rust written for speed.
     Fast,
-    /// A scan of the readings, for columns alone.
+    /// A scan of the readings, for columns and days alone.
     Scan,
 }
 
@@ -54,11 +54,13 @@ pub enum Call {
     StoppedWhole,
     /// Every stopped column of the drawn windows.
     StoppedDrawn,
+    /// The change of every day.
+    DayChange,
 }
 
 impl Call {
     /// Every call, each at its place.
-    pub const ALL: [Call; 8] = [
+    pub const ALL: [Call; 9] = [
         Call::Make,
         Call::TurnBack,
         Call::WriteRecord,
@@ -67,6 +69,7 @@ impl Call {
         Call::FinishedDrawn,
         Call::StoppedWhole,
         Call::StoppedDrawn,
+        Call::DayChange,
     ];
 
     /// Its name in a table.
@@ -80,17 +83,18 @@ impl Call {
             "finished, drawn windows",
             "stopped, whole series",
             "stopped, drawn windows",
+            "day change",
         ][self as usize]
     }
 
-    /// Whether it is one of columns.
-    pub fn is_of_columns(self) -> bool {
-        self as usize >= Call::FinishedWhole as usize
+    /// Whether it is one on a whole table, and not one of columns or days.
+    pub fn is_of_whole_table(self) -> bool {
+        self as usize <= Call::ReadRecord as usize
     }
 
     /// Whether a side has it.
     pub fn is_on(self, side: Side) -> bool {
-        side != Side::Scan || self.is_of_columns()
+        side != Side::Scan || !self.is_of_whole_table()
     }
 
     /// Whether it takes the drawn windows.
@@ -121,26 +125,27 @@ impl Work {
             Side::Proved => self.run_store::<Proved>(call),
             Side::Plain => self.run_store::<Plain>(call),
             Side::Fast => self.run_store::<Fast>(call),
-            Side::Scan => self.run_columns::<Scan>(call),
+            Side::Scan => self.run_parts::<Scan>(call),
         }
     }
 
-    fn run_store<S: Store + Columns>(&mut self, call: Call) -> bool {
+    fn run_store<S: Store + Parts>(&mut self, call: Call) -> bool {
         let Work { readings, written, .. } = self;
         match call {
             Call::Make => S::make(readings, written),
             Call::TurnBack => S::turn_back(written),
             Call::WriteRecord => S::write_record(written),
             Call::ReadRecord => S::read_record(written),
-            _ => self.run_columns::<S>(call),
+            _ => self.run_parts::<S>(call),
         }
     }
 
-    fn run_columns<S: Columns>(&self, call: Call) -> bool {
+    fn run_parts<S: Parts>(&self, call: Call) -> bool {
         let windows = if call.is_of_drawn_windows() { &self.windows[..] } else { &[(0, N)] };
         match call {
             Call::FinishedWhole | Call::FinishedDrawn => S::draw_finished(self, windows),
             Call::StoppedWhole | Call::StoppedDrawn => S::draw_stopped(self, windows),
+            Call::DayChange => S::change_days(self),
             _ => false,
         }
     }

@@ -61,6 +61,19 @@ impl LentTable {
         Given::new(call(coefficients.part(), codes.part())).read(&coefficients).read(&codes)
     }
 
+    /// The second program's finished answer of a column, without its count.
+    pub fn finished(&self, column: Column) -> Result<second::Answer, second::Refusal> {
+        let finished = second::finished(self.n as u64, &self.coefficients, &self.codes, of_second(column));
+        finished.map(|finished| finished.answer)
+    }
+
+    /// Whether a column has a reading, if nothing is unsound above it.
+    pub fn reads(&self, column: Column) -> bool {
+        let l = self.levels() as u64;
+        let stopped = second::stopped(self.n as u64, &self.coefficients, &self.codes, of_second(column), l);
+        stopped.is_ok_and(|stopped| stopped.inner.is_some())
+    }
+
     /// What happened to a call for a column of this table; `taken` is what to say of it if it was taken.
     pub fn outcome(&self, head: &Head, column: Column, taken: &str) -> String {
         match head {
@@ -159,7 +172,7 @@ pub fn damaged_tables() -> Vec<Rc<LentTable>> {
 }
 
 /// Puts what is never sound at a place of the coefficients, or, after them, of the codes.
-fn spoil_place(table: &mut Table, place: usize) {
+pub fn spoil_place(table: &mut Table, place: usize) {
     match table.coefficients.get_mut(place) {
         Some(coefficient) => *coefficient = -2_000_001,
         None => table.codes[place - table.coefficients.len()] = 9,

@@ -10,6 +10,7 @@ pub mod soak;
 pub mod tally;
 
 mod columns;
+mod days;
 mod drawn_records;
 mod given;
 mod lent;

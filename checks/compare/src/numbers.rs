@@ -88,6 +88,14 @@ pub fn draw_n(random: &mut Drawing) -> usize {
     n
 }
 
+/// A number of hours that are more than a day and at most five, mostly odd, of which a note is taken.
+pub fn draw_n_of_days(random: &mut Drawing) -> usize {
+    let n = 25 + random.below(96) as usize;
+    let n = random.one_of(&[n, n / 2 * 2 + 1]);
+    random.note(sort_of_n(n));
+    n
+}
+
 /// A number of hours: mostly few, often close to a power of two, seldom many, sometimes none or too many.
 pub fn draw_any_n(random: &mut Drawing) -> usize {
     let around = |power: u64, by: u64| (1 << power) + by as usize - 1;

@@ -5,7 +5,7 @@ mod common;
 use common::{all_nodes, column, draw_column, draw_n, draw_series, look_through, made, shape, value_of, Made};
 use second::columns::Visit;
 use second::random::Random;
-use second::{day_change, edges, finished, stopped, Column, Finished, Hours, LowHigh, Stopped};
+use second::{edges, finished, stopped, Column, Finished, Hours, LowHigh, Stopped};
 
 /// Hour t of a window of L hours drawn in w columns belongs to column floor(w·t / L).
 #[test]
@@ -183,22 +183,4 @@ fn numbers_past_the_table_are_not_looked_at() {
     codes.extend([9, 9]);
     let after: Vec<_> = columns.iter().map(|&column| finished(7, &coefficients, &codes, column)).collect();
     assert_eq!(before, after);
-}
-
-#[test]
-fn day_changes_are_last_minus_first() {
-    let seed = 14;
-    let mut random = Random::new(seed);
-    for _ in 0..3_000 {
-        let n = draw_n(&mut random, 130);
-        let Made { readings, coefficients, codes, .. } = made(&draw_series(&mut random, n));
-        for day in 0..n.div_ceil(24) {
-            let hours = Hours { first: 24 * day, end: (24 * day + 24).min(n) };
-            let expected = look_through(&readings, hours).map(|found| found.last.grams - found.first.grams);
-            let given = day_change(n, &coefficients, &codes, day);
-            assert_eq!(given, Ok(expected), "seed {seed}, day {day} of {readings:?}");
-        }
-    }
-    let far = made(&[-1_000_000, 1_000_000]);
-    assert_eq!(day_change(2, &far.coefficients, &far.codes, 0), Ok(Some(2_000_000)));
 }

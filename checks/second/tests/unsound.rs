@@ -6,6 +6,7 @@ mod common;
 use std::collections::HashMap;
 
 use common::{all_nodes, damage, draw_column, draw_n, draw_series, made, refusal, shape, Made};
+use second::hours::GAP;
 use second::random::Random;
 use second::{day_change, edges, finished, stopped, turn_back};
 use second::{Finished, Found, Hours, LowHigh, Node, Reading, Refusal, Shape, Stopped};
@@ -187,16 +188,22 @@ impl Nodes {
     }
 }
 
-/// A made table, damaged.
-fn draw_damaged(random: &mut Random, most_hours: u64) -> Made {
-    let n = draw_n(random, most_hours);
-    let mut table = made(&draw_series(random, n));
+/// The table of a series, damaged.
+fn damaged(random: &mut Random, readings: &[i32]) -> Made {
+    let mut table = made(readings);
     damage(random, &mut table);
     if random.once_in(6) {
         // The same table of fewer hours.
         table.n = table.n.min(table.coefficients.len() as u64 / 2 + 1 + random.below(table.n));
     }
     table
+}
+
+/// A made table, damaged.
+fn draw_damaged(random: &mut Random, most_hours: u64) -> Made {
+    let n = draw_n(random, most_hours);
+    let readings = draw_series(random, n);
+    damaged(random, &readings)
 }
 
 #[test]
@@ -254,22 +261,44 @@ fn columns_of_damaged_tables() {
     assert!(answered > 500 && opened > 500 && walked > 500, "{answered} answered, {opened} opened, {walked} walked");
 }
 
+/// A damaged table in whose series often whole days have no reading, the first ones or any.
+fn draw_damaged_days(random: &mut Random) -> Made {
+    let n = draw_n(random, 120);
+    let mut readings = draw_series(random, n);
+    let first = random.one_of(&[0, 0, 0, 24, 48, 72]).min(readings.len());
+    readings[..first].fill(GAP);
+    readings.chunks_mut(24).filter(|_| random.once_in(4)).for_each(|day| day.fill(GAP));
+    damaged(random, &readings)
+}
+
+/// Document 02's sentences on a day: whose refusal it is, and the change from the latest reading before.
 #[test]
 fn days_of_damaged_tables() {
     let seed = 23;
     let mut random = Random::new(seed);
-    let (mut changes, mut refused) = (0, 0);
-    for _ in 0..40_000 {
-        let table = draw_damaged(&mut random, 100);
+    let (mut changes, mut by_day, mut by_both, mut by_hours_before, mut unseen) = (0, 0, 0, 0, 0);
+    for _ in 0..80_000 {
+        let table = draw_damaged_days(&mut random);
         let nodes = nodes_of(&table);
         let day = random.below(table.n.div_ceil(24));
-        let hours = Hours { first: 24 * day, end: (24 * day + 24).min(table.n) };
-        let expected =
-            nodes.finished(hours).map(|finished| finished.answer.map(|found| found.last.grams - found.first.grams));
+        let answer = |first, end| nodes.finished(Hours { first, end }).map(|finished| finished.answer);
+        let (of_day, before) = (answer(24 * day, (24 * day + 24).min(table.n)), answer(0, 24 * day));
+        let expected = match (of_day, before) {
+            (Err(refusal), _) => Err(refusal),
+            (Ok(None), _) => Ok(None),
+            (Ok(Some(found)), _) if day == 0 => Ok(Some(found.last.grams - found.first.grams)),
+            (Ok(Some(_)), Err(refusal)) => Err(refusal),
+            (Ok(Some(found)), Ok(None)) => Ok(Some(found.last.grams - found.first.grams)),
+            (Ok(Some(found)), Ok(Some(before))) => Ok(Some(found.last.grams - before.last.grams)),
+        };
         let given = day_change(table.n, &table.coefficients, &table.codes, day);
         assert_eq!(given, expected, "seed {seed}, day {day} of {table:?}");
-        changes += u64::from(given.is_ok());
-        refused += u64::from(given.is_err());
+        changes += u64::from(given.is_ok_and(|change| change.is_some()));
+        by_day += u64::from(of_day.is_err() && before.is_ok());
+        by_both += u64::from(of_day.is_err() && before.is_err() && of_day.err() != before.err());
+        by_hours_before += u64::from(of_day.is_ok() && given.is_err());
+        unseen += u64::from(given == Ok(None) && before.is_err());
     }
-    assert!(changes > 500 && refused > 500, "{changes} changes, {refused} refused");
+    let drawn = [changes, by_day, by_both, by_hours_before, unseen];
+    assert!(drawn.iter().all(|&days| days > 100), "{drawn:?}");
 }

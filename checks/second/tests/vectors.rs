@@ -3,7 +3,7 @@
 use std::collections::{BTreeMap, BTreeSet};
 
 use second::vectors::{columns, old_logs, printer, records, tables, written, Vector};
-use second::{print, rebuild, stopped, turn_back, Column, Shape};
+use second::{finished, print, rebuild, stopped, turn_back, Column, Shape};
 
 /// The programs that read them have room for so many bytes each, and half of it stays for calls to come.
 const MOST_BYTES: usize = 2_097_152 / 2;
@@ -262,6 +262,38 @@ fn columns_without_an_hour_and_without_a_reading_are_there() {
         }
     }
     assert!(no_hour >= 20 && no_reading >= 20, "{no_hour} {no_reading}");
+}
+
+/// What a call on a day with hours before it is for.
+fn sort_of_day(table: &columns::Table, day: u64) -> &'static str {
+    let columns::Table { n, coefficients, codes } = table;
+    let over = |a, b| finished(*n, coefficients, codes, Column { a, b, w: 1, k: 0 }).map(|told| told.answer);
+    let first = 24 * day;
+    match (over(first, (first + 24).min(*n)), over(0, first)) {
+        (Err(day), Err(before)) if day != before => "the day and the hours before are damaged",
+        (Err(_), _) => "the day is damaged",
+        (Ok(None), Err(_)) => "no reading, and the hours before are damaged",
+        (Ok(None), _) => "no reading",
+        (Ok(_), Err(_)) => "the hours before are damaged",
+        (Ok(_), Ok(None)) => "no reading before",
+        (Ok(_), Ok(Some(before))) if before.last.hour + 24 < first => "after a gap of days",
+        _ => "after a reading of the day before",
+    }
+}
+
+#[test]
+fn days_of_every_sort_are_there() {
+    let mut sorts: BTreeMap<&str, usize> = BTreeMap::new();
+    for call in columns::calls() {
+        let columns::Call::DayChange { table, day } = &call else {
+            continue;
+        };
+        let asked = call.clone().answer().0;
+        if *day > 0 && ["day_change taken", "day_change refused 4"].contains(&asked.as_str()) {
+            *sorts.entry(sort_of_day(table, *day)).or_default() += 1;
+        }
+    }
+    assert!(sorts.len() == 8 && sorts.values().all(|&calls| calls >= 10), "{sorts:?}");
 }
 
 /// Takes apart the text that the program of the printer reads, by what is told of it alone.

@@ -1,10 +1,8 @@
--- The hours of a day and its change. Assumes nothing.
-use Rattle.kit.proofs.{_≡_, ap, ℕ, _+_, _*_, _^_, _≤_, _<_, min, arith, ℤ, pos, negsuc, negℤ, _-ℤ_, mag, _≤ℤ_, w32}
-use Rattle.kit.proofs.{SFits, toZ, ofZ}
-use Rattle.signed.proofs.{sub-parts, signed, reads-back}
-use Rattle.words.specs.{largestReading, gapMark, dayHours}
-use Rattle.words.specs.declared.{Answer.Answer, Column.Column, Summary.Summary}
-use Rattle.om3.specs.Document.{hour, day}
+-- The hours of a day and the difference of two readings. Assumes nothing.
+use Rattle.kit.proofs.{_≡_, ap, ℕ, _+_, _*_, _≤_, _<_, min, arith, ℤ, _-ℤ_, w32, SFits, toZ, ofZ, toZ-ofZ}
+use Rattle.signed.proofs.{signed}
+use Rattle.words.specs.{dayHours, declared.Answer.Answer, declared.Column.Column}
+use Rattle.om3.specs.Document.{hour, day, changeOf, addedBy}
 use Rattle.walking.specs.Walking.{Small}
 use Rattle.columns.specs.Drawing.{SmallAnswer}
 
@@ -23,31 +21,29 @@ module _ (n d : ℕ) where
       let e : dayHours * d + dayHours ≡ min (dayHours * d + dayHours) n = omega arith in
       ap upTo e
 
--- What a reading or a gap holds fits into 32 bits, and so does the difference of two of them: at most that of the gap
--- mark and the least reading.
-abbrev farthest : ℤ
-farthest = pos (largestReading + gapMark)
+-- What a reading or a gap holds fits into 32 bits.
+small-fits : (z : ℤ) → Small z → SFits w32 z
+small-fits z p = omega signed
 
-fits-mag : (z : ℤ) → negℤ farthest ≤ℤ z → z ≤ℤ farthest → mag z < 2 ^ 31
-fits-mag (pos m) p q = omega signed
-fits-mag (negsuc m) p q = omega signed
+-- So does the difference z − y of two of them, which the machine makes of what it reads back from their bits.
+module _ (z y : ℤ) (p : Small z) (q : Small y) where
+  read-back : toZ w32 (ofZ w32 z) -ℤ toZ w32 (ofZ w32 y) ≡ z -ℤ y
+  read-back = rw (toZ-ofZ (small-fits z p), toZ-ofZ (small-fits y q))
 
-small-mag : (z : ℤ) → Small z → mag z < 2 ^ 31
-small-mag z p = fits-mag z (omega signed) (omega signed)
+  difference-fits : SFits w32 (z -ℤ y)
+  difference-fits = omega signed
 
-module _ (s : Summary) (p : SmallAnswer (Answer.Found s)) where
-  abbrev f : ℤ
-  f = s .first .grams
+  pub change-fits : SFits w32 (toZ w32 (ofZ w32 z) -ℤ toZ w32 (ofZ w32 y))
+  change-fits = rw read-back difference-fits
 
-  abbrev g : ℤ
-  g = s .last .grams
+  pub change-is : toZ w32 (ofZ w32 (toZ w32 (ofZ w32 z) -ℤ toZ w32 (ofZ w32 y))) ≡ z -ℤ y
+  change-is = rw read-back (toZ-ofZ difference-fits)
 
-  pub change-fits : SFits w32 (toZ w32 (ofZ w32 g) -ℤ toZ w32 (ofZ w32 f))
-  change-fits = rw (reads-back g (small-mag g (p .1)), reads-back f (small-mag f (p .0))) (omega signed)
-
-  pub change-is : toZ w32 (ofZ w32 (toZ w32 (ofZ w32 g) -ℤ toZ w32 (ofZ w32 f))) ≡ g -ℤ f
-  change-is =
-      let lower : negℤ farthest ≤ℤ (g -ℤ f) = omega (signed, sub-parts g f) in
-      let upper : (g -ℤ f) ≤ℤ farthest = omega (signed, sub-parts g f) in
-      rw (reads-back g (small-mag g (p .1)), reads-back f (small-mag f (p .0)))
-      (reads-back (g -ℤ f) (fits-mag (g -ℤ f) lower upper))
+-- Whatever small answers the hours before a day and the day have, the change is a number of 32 bits.
+pub change-small : (earlier own : Answer) → SmallAnswer earlier → SmallAnswer own
+    → SFits w32 (addedBy (changeOf earlier own))
+change-small earlier Answer.NoReading p q = omega signed
+change-small Answer.NoReading (Answer.Found own) p q =
+    difference-fits (own .last .grams) (own .first .grams) (q .1) (q .0)
+change-small (Answer.Found earlier) (Answer.Found own) p q =
+    difference-fits (own .last .grams) (earlier .last .grams) (q .1) (p .1)

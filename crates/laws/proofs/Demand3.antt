@@ -1,22 +1,21 @@
 -- Demand 3: from a table that some series has, a finished column answers what a look through its hours gives, a column
--- stopped at a depth its two ranges and its count, and a day its change. The checks pass, since such a table is long
--- enough and sound. Assumes nothing.
-use Rattle.kit.proofs.{_≡_, ap, List, [], _∷_, ℕ, _+_, _*_, _≤_, _<_, arith, ℤ, le-ltb}
-use Rattle.words.specs.{dayHours, declared.Finished.Finished, declared.Stopped.Stopped, declared.Column.Column}
-use Rattle.om3.specs.Document.{Series, levels, Table, HasTable, inOrder, checkDepth, column, columnHours}
-use Rattle.om3.specs.Document.{openedNodes, countAt, outer, inner, examineColumn, stopped, answer, count}
-use Rattle.om3.specs.Document.{finishedNodes, finished, day, changeOf, dayChange, lookThrough, Drawn, Ranged}
-use Rattle.laws.proofs.{Demand2.has-sound, Demand2.has-ranges, Answers.day-hours, Edges.edge-mono}
-use Rattle.laws.proofs.{Windows.column-before, FinishedAnswers.finished-looks, NeverRefused.opened-passes}
-use Rattle.laws.proofs.{NeverRefused.finished-passes, ColumnChecks.columns-pass, ColumnChecks.day-passes}
-use Rattle.laws.proofs.{ColumnRanges.fits, ColumnRanges.column-ranged}
+-- stopped at a depth its two ranges and its count. The checks pass, since such a table is long enough and sound.
+-- Assumes nothing.
+use Rattle.kit.proofs.{_≡_, List, [], _∷_, ℕ, _+_, _≤_, arith, ℤ, le-ltb}
+use Rattle.words.specs.declared.{Finished.Finished, Stopped.Stopped, Column.Column}
+use Rattle.om3.specs.Document.{Series, levels, Table, HasTable, inOrder, checkDepth, column, columnHours, openedNodes}
+use Rattle.om3.specs.Document.{countAt, outer, inner, examineColumn, stopped, answer, count, finishedNodes, finished}
+use Rattle.om3.specs.Document.{lookThrough, Drawn, Ranged}
+use Rattle.laws.proofs.{Demand2.has-sound, Demand2.has-ranges, Edges.edge-mono, Windows.column-before}
+use Rattle.laws.proofs.{FinishedAnswers.finished-looks, NeverRefused.opened-passes, NeverRefused.finished-passes}
+use Rattle.laws.proofs.{ColumnChecks.columns-pass, ColumnRanges.fits, ColumnRanges.column-ranged}
 
 module _ (n : ℕ) (s : List ℤ) (t : Table) (series : Series n s) (has : HasTable n s t) where
   abbrev l : ℕ
   l = levels n
 
   -- Any column of the hours of the series, with an hour or without.
-  column-seen : (x : Column) → x .from .0 ≤ x .upto .0 → x .upto .0 ≤ n
+  pub column-seen : (x : Column) → x .from .0 ≤ x .upto .0 → x .upto .0 ≤ n
       → answer l t x ≡ lookThrough n s (columnHours x)
   column-seen x some ends =
       finished-looks l n s t (has-ranges n s t series has) x some (fits n s t series has x ends)
@@ -56,14 +55,3 @@ module _ (n : ℕ) (s : List ℤ) (t : Table) (series : Series n s) (has : HasTa
 
     pub ranged-drawn : Ranged n s t (column a b w k)
     ranged-drawn = column-ranged n s t series has x column-ends
-
-  -- The change of a day is that of a look through its hours.
-  pub day-drawn : (d : ℕ) → dayHours * d < n → dayChange n t d ≡ changeOf (lookThrough n s (columnHours (day n d)))
-  unfolding dayChange inOrder
-  day-drawn d h =
-      let x = day n d in
-      let hours = day-hours n d h in
-      let four = examineColumn l t x n (finishedNodes l t x) in
-      let ok = finished-passes l n t (has-sound n s t series has) x in
-      let some : x .from .0 ≤ x .upto .0 = omega (arith, hours .0) in
-      rw (day-passes n s t series has d h (four ∷ []) (rw ok)) (ap changeOf (column-seen x some (hours .1)))

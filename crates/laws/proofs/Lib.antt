@@ -56,6 +56,7 @@ pub mod NeverRefused
 pub mod ColumnChecks
 pub mod ColumnRanges
 pub mod Demand3
+pub mod Days
 pub mod PrintedColumns
 pub mod RefusalLines
 pub mod OldLogs

@@ -34,7 +34,7 @@ range-joined (Found a) NoReading = refl
 range-joined (Found a) (Found b) = refl
 
 -- The answer of one reading: it is the first, the last, the lowest and the highest.
-abbrev answerOne : Reading → Answer
+abbrev pub answerOne : Reading → Answer
 answerOne r = Found (record { first = r; last = r; low = r .grams; high = r .grams })
 
 -- One reading before others: it is the first of all.

@@ -42,7 +42,7 @@ module _ (l : ℕ) (t : Table) where
       (all-append (Above l) L [] (last-above (lastOf v vs) (last-in l t v vs (a .0 .inTree) (a .1))) tt)
 
 -- A column without an hour is not examined.
-hour-or-passes : (b : Bool) (c : Check) → c ≡ passes → cond b passes c ≡ passes
+pub hour-or-passes : (b : Bool) (c : Check) → c ≡ passes → cond b passes c ≡ passes
 hour-or-passes true c e = refl
 hour-or-passes false c e = e
 

@@ -1,6 +1,6 @@
 -- The names of the documents' definitions, chapter by chapter, passed on from one place to the proofs and to other
 -- crates. Nothing is defined here. Assumes nothing.
-pub use Rattle.om3.specs.Lists.{sum}
+pub use Rattle.om3.specs.Lists.{sum, total}
 unfoldable pub use Rattle.om3.specs.Lists.{upFrom, any, every, keep, lastOf, firstFrom}
 pub use Rattle.om3.specs.Series.{isReading, isGap, Holds, Series, badHours, P, hour, hoursFrom}
 unfoldable pub use Rattle.om3.specs.Series.{levels, hourOf}
@@ -44,7 +44,7 @@ pub use Rattle.om3.specs.Finished.{levelsOf, nodesOf, endOf, towardsFirs
 pub use Rattle.om3.specs.Finished.{readingAt, walksFrom, answerFrom, answer, count, finishedNodes}
 unfoldable pub use Rattle.om3.specs.Finished.{walkNodes, walkEnd, insideNodes, finished}
 pub use Rattle.om3.specs.Joined.{joined}
-pub use Rattle.om3.specs.Days.{day, changeOf}
+pub use Rattle.om3.specs.Days.{day, before, changeOf, examineBefore, daysOf, addedBy, spanOf}
 unfoldable pub use Rattle.om3.specs.Days.{dayChange}
 pub use Rattle.om3.specs.Text.{ascii, lineFeed, space, minus, Parts, zeroDigit, digit, isDigit, isNumeral}
 pub use Rattle.om3.specs.Text.{withDigit, valueOf, windowDigits, windowOf, hourDigits, afterMinus, linesOf}
@@ -64,4 +64,4 @@ unfoldable pub use Rattle.om3.specs.Looked.{readingsIn, least, greatest,
 pub use Rattle.om3.specs.Drawn.{Drawn, Ranged}
 pub use Rattle.om3.specs.Numbers.{Answered, numbers, unmarked, outside, further, printing}
 pub use Rattle.om3.specs.TwoCauses.{twoCauses}
-pub use Rattle.om3.specs.LaterNumbers.{oldLogs}
+pub use Rattle.om3.specs.LaterNumbers.{oldLogs, dayChanges}

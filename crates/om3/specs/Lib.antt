@@ -1,5 +1,5 @@
--- Document 01 as definitions, in its order; OldLog and OldText, document 02's first wish; Looked and Drawn, what
--- demand 3 compares them with.
+-- Document 01 as definitions, in its order, Days by document 02's second wish; OldLog and OldText, its first; Looked
+-- and Drawn, what demand 3 compares them with.
 pub mod Lists
 pub mod Series
 pub mod Nodes

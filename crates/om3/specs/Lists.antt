@@ -5,11 +5,12 @@
 --   every p xs       whether each element passes it; of no elements each does
 --   keep p xs        the elements that pass it, in their order
 --   lastOf x xs      the last of x and the elements xs that follow it
---   sum ms           all numbers of a list together
+--   sum ms           all numbers of a list together; total zs, of signed numbers
 --   firstFrom p j c  the least of j, j + 1, .., j + c that passes the test p, and j + c where none of them does
 use mathlib.Core.Bool.{Bool, true, false, cond, _&&_, _||_}
 use mathlib.Core.List.{List, [], _∷_}
 use Prim.Native.Nat.{ℕ, zero, suc, _+_}
+use lib.IntN.{ℤ, pos, _+ℤ_}
 
 unfoldable pub upFrom : ℕ → ℕ → List ℕ
 upFrom f zero = []
@@ -35,6 +36,10 @@ lastOf x (y ∷ ys) = lastOf y ys
 abbrev pub sum : List ℕ → ℕ
 sum [] = 0
 sum (m ∷ ms) = m + sum ms
+
+abbrev pub total : List ℤ → ℤ
+total [] = pos 0
+total (z ∷ zs) = z +ℤ total zs
 
 unfoldable pub firstFrom : (ℕ → Bool) → ℕ → ℕ → ℕ
 firstFrom p j zero = j

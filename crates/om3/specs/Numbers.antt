@@ -126,9 +126,9 @@ unmarked =
     ∷ (stoppedFor 7 seven 0 7 3 0 4 is refusal 7 0)
     ∷ (edgesFor 7 0 7 4096 4095 is hoursOf 7 7)
     ∷ (edgesFor 7 0 7 4097 0 is refusal 6 0)
-    -- 12
+    -- 12, as document 02's second wish has it [wish2 5]
     ∷ (dayFor 26 days 0 is says (taken (g 600 ∷ [])))
-    ∷ (dayFor 26 days 1 is says (taken (g 100 ∷ [])))
+    ∷ (dayFor 26 days 1 is says (taken (g 500 ∷ [])))
     ∷ (dayFor 26 days 2 is refusal 5 0)
     -- the house record
     ∷ (sizeFor 2 is says (taken (pos 10 ∷ pos 14 ∷ [])))

@@ -13,6 +13,7 @@ use Rattle.om3.specs.Questions.{makingFor, turningFor, finishedIn, stopp
 use Rattle.om3.specs.Questions.{readingFor, openFor, askFor, viewFor, printFor, rebuildFor, bytes}
 use Rattle.om3.specs.Text.{ascii}
 use Rattle.om3.specs.Numbers.{Case, _is_, _prints_, g, refusal, eight, fourteen, damaged}
+use Rattle.om3.specs.LaterNumbers.{rising}
 
 -- One hour more than a series has.
 abbrev tooMany : ℕ
@@ -80,6 +81,9 @@ twoCauses =
     -- [refusals 17]
     ∷ (dayIn tooMany [] [] 0 is refusal 1 0)
     ∷ (dayIn 2 [] [] 1 is refusal 3 0)
+    -- in 4 the day, then the hours before it: the walks to the first reading of day 1 and of day 0 end at pairs 44
+    -- and 32 [wish2 7]
+    ∷ (dayIn 48 rising (9 ∷ replicate 11 1 ++ 9 ∷ replicate 11 1 ++ replicate 8 4) 1 is refusal 4 44)
     -- writing a record 1, 3, 4 [refusals 18]
     ∷ (writingFor tooMany [] [] 0 is refusal 1 0)
     ∷ (writingFor 2 unsound (0 ∷ []) 13 is refusal 3 0)

@@ -223,7 +223,8 @@ pub extern "C" fn sagivelume_join(left: ToldAnswer, right: ToldAnswer) -> ToldAn
     ))
 }
 
-// The change of a day, from a table of n hours: needs P coefficients and P/2 codes. Refusals 1, 3, 5, 4.
+// The change of a day, from a table of n hours: its last reading minus the latest before that day, or minus its own
+// first. Needs P coefficients and P/2 codes. Refusals 1, 3, 5, 4.
 #[no_mangle]
 pub extern "C" fn sagivelume_day_change(
     n: usize,

@@ -1,15 +1,13 @@
 -- What is proved beside the demands: making after turning back, reading after writing and writing after reading, single
--- coefficients, what the boundary tells, the columns of a window, the day change, how the looks through parts make up
--- the whole, and what the printer prints. Assumes nothing.
-use Rattle.kit.proofs.{_≡_, false, List, map, flatten, flatMap, ℕ, _-_, _*_, _/_, _^_, _≤_, _<_, ℤ, pos, length, getD}
-use Rattle.kit.proofs.{take}
+-- coefficients, what the boundary tells, the columns of a window, how the looks through parts make up the whole, and
+-- what the printer prints. Assumes nothing.
+use Rattle.kit.proofs.{_≡_, false, List, map, flatten, flatMap, ℕ, _-_, _/_, _^_, _≤_, _<_, ℤ, pos, length, getD, take}
 use denote.Ref.{RefT, now}
-use Rattle.words.specs.{dayHours, declared.Answer.Answer, declared.HourLine.HourLine, declared.Refusal.Refusal}
-use Rattle.words.specs.declared.{Taking.Taking, Writing.Writing, Unpacking.Unpacking, Asking.Asking, Finished.Finished}
-use Rattle.om3.specs.Document.{upFrom, Series, levels, P, hoursFrom, Table, tableOf, HasTable, lent, tableShort, filled}
-use Rattle.om3.specs.Document.{passes, refuses, inOrder, coefficientIn, openingChecks, askingView, asking, day}
-use Rattle.om3.specs.Document.{changeOf, dayChange, column, columnHours, finished, joined, lookThrough, count, gramsOf}
-use Rattle.om3.specs.Document.{printingChecks}
+use Rattle.words.specs.declared.{Answer.Answer, HourLine.HourLine, Refusal.Refusal, Taking.Taking, Writing.Writing}
+use Rattle.words.specs.declared.{Unpacking.Unpacking, Asking.Asking, Finished.Finished}
+use Rattle.om3.specs.Document.{upFrom, Series, levels, P, hoursFrom, tableOf, lent, tableShort, filled, passes, refuses}
+use Rattle.om3.specs.Document.{inOrder, coefficientIn, openingChecks, askingView, asking, column, columnHours, finished}
+use Rattle.om3.specs.Document.{joined, lookThrough, count, gramsOf, printingChecks}
 use Rattle.laws.proofs as laws
 use Rattle.making.specs.Making.{Made}
 use Rattle.turning.specs.Turning.{TurnedBack}
@@ -69,11 +67,6 @@ window-columns = laws.Windows.window-columns
 -- An answer that was told and is handed in, to be joined, is the same answer.
 answer-back : (a : Answer) → answerIn (answerTold a) ≡ a
 answer-back = told.Back.answer-back
-
--- From a table that a series has, the change of a day is that of a look through its hours.
-day-change : (n : ℕ) (s : List ℤ) (t : Table) → Series n s → HasTable n s t → (d : ℕ) → dayHours * d < n
-    → dayChange n t d ≡ changeOf (lookThrough n s (columnHours (day n d)))
-day-change = laws.Demand3.day-drawn
 
 -- What a look through the hours from f up to, not including, h gives is joined from those of its parts, cut at hour g.
 look-joined : (n : ℕ) (s : List ℤ) (f g h : ℕ) → f ≤ g → g ≤ h

@@ -6,6 +6,7 @@ pub mod Calls
 pub mod Records
 pub mod Boundary
 pub mod Rebuilt
+pub mod Days
 pub mod Views
 pub mod Printer
 pub mod Rebuilder

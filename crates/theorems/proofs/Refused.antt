@@ -7,7 +7,7 @@ use Rattle.words.specs.declared.{Refusal.Refusal, Taking.Taking, Writing.Writin
 use Rattle.words.specs.declared.{Asking.Asking, Edges.Edges, Stopped.Stopped, Answer.Answer, Finished.Finished}
 use Rattle.words.specs.declared.{DayChange.DayChange}
 use Rattle.words.specs.declared.Refusal.the-variants as refusal
-use Rattle.om3.specs.Document.{Check, passes, refuses, inOrder, answerBy, levels, lent, answer, day, changeOf}
+use Rattle.om3.specs.Document.{Check, passes, refuses, inOrder, answerBy, levels, lent, answer, day, before, changeOf}
 use Rattle.om3.specs.Document.{opening, askingView, edges, stopped, finished, dayChange}
 use Rattle.laws.proofs.Examined.{first-cause}
 use Rattle.told.specs.declared.tables.Told.{Told}
@@ -101,9 +101,10 @@ module _ (checks : List Check) where
         refl checks r
 
 -- A day that is taken tells number 0, with a reading or without.
-change-zero : (a : Answer) → changeTold (changeOf a) .number ≡ 0
-change-zero Answer.NoReading = refl
-change-zero (Answer.Found s) = refl
+change-zero : (earlier own : Answer) → changeTold (changeOf earlier own) .number ≡ 0
+change-zero earlier Answer.NoReading = refl
+change-zero Answer.NoReading (Answer.Found own) = refl
+change-zero (Answer.Found earlier) (Answer.Found own) = refl
 
 pub each-refused : EachRefused
 unfolding opening askingView edges stopped finished dayChange
@@ -130,7 +131,8 @@ each-refused =
           tells-refusal Finished.Refused _ finishedTold (λ u. (u .number, u .place)) (λ why. refl) refl _ r m;
       day-change = λ κs n coefficients codes d r e m.
           tells-refusal DayChange.Refused _ changeTold (λ u. (u .number, u .place)) (λ why. refl)
-          (change-zero (answer (levels n) (lent (now coefficients) (now codes)) (day n d))) _ r m;
+          (let t = lent (now coefficients) (now codes) in
+          change-zero (answer (levels n) t (before d)) (answer (levels n) t (day n d))) _ r m;
     }
 
 -- What is told with another number than 0 was refused by some check.

@@ -4,7 +4,7 @@
 --   Demand1   every call ends with one answer; refusals, in their order; a refused call writes nothing
 --   Demand2   a table is taken exactly if some series has it, and that is the only one; records likewise
 --   Demand3   columns of a table that was made from readings: finished, and stopped at any depth
---   Besides   windows, joined answers, days, single coefficients, views, the printer
+--   Besides   windows, joined answers, single coefficients, views, the printer
 --   Wishes    of the requests of document 02
 --   Laws      of the definitions alone
 --   Figures   document 01's numbers and those of the papers, computed

@@ -15,11 +15,11 @@ use denote.Ref.{now}
 use Rattle.kit.specs.Calls.{second, third, fourth, fifth}
 use Rattle.words.specs.{numberOf, placeOf}
 use Rattle.words.specs.declared.Refusal.{Refusal}
-use Rattle.om3.specs.Document.{levels, Check, FirstCause, lent, checkHours, checkReadings, short, tableShort}
-use Rattle.om3.specs.Document.{checkRoom, examineTable, checkWindow, checkDay, checkColumn, checkDepth, recordSize}
-use Rattle.om3.specs.Document.{hoursIn, tableIn, checkHeader, checkVersion, checkLength, checkCut, checkAfter}
-use Rattle.om3.specs.Document.{checkPlace, checkReach, column, day, openedNodes, finishedNodes, examineColumn}
-use Rattle.om3.specs.Document.{checkFlags, recordedHours, checkStart, rebuilt, checkWeights}
+use Rattle.om3.specs.Document.{levels, Check, FirstCause, lent, checkHours, checkReadings, short, tableShort, checkRoom}
+use Rattle.om3.specs.Document.{examineTable, checkWindow, checkDay, checkColumn, checkDepth, recordSize, hoursIn}
+use Rattle.om3.specs.Document.{tableIn, checkHeader, checkVersion, checkLength, checkCut, checkAfter, checkPlace}
+use Rattle.om3.specs.Document.{checkReach, column, day, openedNodes, finishedNodes, examineColumn, answer}
+use Rattle.om3.specs.Document.{examineBefore, checkFlags, recordedHours, checkStart, rebuilt, checkWeights}
 use Rattle.sagivelume.proofs.Clauses as boundary
 
 -- The number is not 0 exactly if some check refuses, and number and place are those of the first that does.
@@ -131,7 +131,7 @@ pub record EachRefused : Type 0 where
       ∷ checkColumn w k
       ∷ examineColumn (levels n) t (column a b w k) n (finishedNodes (levels n) t (column a b w k))
       ∷ []) (r .number) (r .place)
-  -- 1, 3, 5, 4: the same of the day's hours
+  -- 1, 3, 5, 4: the same of the day's hours, then of those before it
   pub day-change : (κs : _) (n : _) (coefficients : _) (codes : _) (d : _) (r : _) (e : _)
       → boundary.DayChangePromises κs n coefficients codes d r e
       → let t = lent (now coefficients) (now codes) in
@@ -140,6 +140,7 @@ pub record EachRefused : Type 0 where
       ∷ checkRoom (tableShort n t)
       ∷ checkDay n d
       ∷ examineColumn (levels n) t (day n d) n (finishedNodes (levels n) t (day n d))
+      ∷ examineBefore n t d (answer (levels n) t (day n d))
       ∷ []) (r .number) (r .place)
 
 pub record NothingWritten : Type 0 where

@@ -82,11 +82,12 @@ pub fn join(left: Answer, right: Answer) -> Answer {
     linked::join(left, right).answer()
 }
 
-/// The change of a day, which has the hours 24·d to 24·d + 23, cut at n: its last reading minus its first, `None` for
-/// "no reading".
+/// The change of a day, which has the hours 24·d to 24·d + 23, cut at n: its last reading minus the latest reading
+/// before that day, of whatever day; with none earlier, minus its own first; `None` for "no reading". The changes of
+/// all days add up to the last reading of the series minus its first.
 ///
-/// Needs P coefficients and P/2 codes. [Refusals](Refusal) 1, 3, 5, 4, the last as for a finished column over these
-/// hours.
+/// Needs P coefficients and P/2 codes. [Refusals](Refusal) 1, 3, 5, 4, the last as for a finished column over the day's
+/// hours, and then, if it has a reading, as for one over all hours before it.
 ///
 /// ```
 /// use sagivelume::{Refusal, GAP};
@@ -95,7 +96,14 @@ pub fn join(left: Answer, right: Answer) -> Answer {
 /// assert_eq!(sagivelume::day_change(7, &coefficients, &[1, 3, 1, 4], 0)?, Some(-8_410));
 /// assert_eq!(sagivelume::day_change(3, &[GAP; 4], &[4, 4], 0)?, None);
 ///
-/// let refused = sagivelume::day_change(7, &coefficients, &[1, 3, 1, 4], 1);
+/// // 500 grams came in at midnight, between hours 23 and 24: they are of day 1.
+/// let readings = [[40_000; 24], [40_500; 24]].concat();
+/// let (mut coefficients, mut codes) = ([0; 64], [0; 32]);
+/// sagivelume::make(48, &readings, &mut coefficients, &mut codes)?;
+/// assert_eq!(sagivelume::day_change(48, &coefficients, &codes, 0)?, Some(0));
+/// assert_eq!(sagivelume::day_change(48, &coefficients, &codes, 1)?, Some(500));
+///
+/// let refused = sagivelume::day_change(48, &coefficients, &codes, 2);
 /// assert_eq!(refused, Err(Refusal { number: Refusal::BAD_WINDOW, place: 0 }));
 /// # Ok::<(), Refusal>(())
 /// ```

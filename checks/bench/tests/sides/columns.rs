@@ -1,11 +1,11 @@
-//! Columns, also by a scan, and the plain side's joining and day change.
+//! Columns and days, also by a scan, and the plain side's joining.
 
 use std::collections::BTreeSet;
 
 use crate::common::{
-    answer, damage, draw_series, mark, places, range, refusal, second_column, table_of, FINISHED, STOPPED,
+    answer, damage, draw_series, mark, places, range, refusal, second_column, table_of, DAY_CHANGE, FINISHED, STOPPED,
 };
-use bench::words::{edges, Column, Finished, Refusal, Stopped, GAP};
+use bench::words::{edges, Column, Finished, Refusal, Stopped, DAY, GAP};
 use bench::{plain, scan};
 use second::random::Random;
 
@@ -56,12 +56,14 @@ impl Asked {
         [number(&hours), number(&by_stopped), number(&by_finished)]
     }
 
-    /// The same for a day, on the plain side.
+    /// The same for a day.
     fn compare_day(&self, day: usize) -> Option<u8> {
         let Asked { n, coefficients, codes, .. } = self;
-        let change = second::day_change(*n as u64, coefficients, codes, day as u64).map_err(refusal);
-        assert_eq!(plain::day_change(*n, coefficients, codes, day), change, "{day} {self:?}");
-        number(&change)
+        let by_second = second::day_change(*n as u64, coefficients, codes, day as u64).map_err(refusal);
+        for day_change in DAY_CHANGE {
+            assert_eq!(day_change(*n, coefficients, codes, day), by_second, "{day} {self:?}");
+        }
+        number(&by_second)
     }
 }
 
@@ -116,6 +118,32 @@ fn sound_and_damaged_tables() {
     assert!(days.into_iter().eq([None, Some(1), Some(3), Some(4), Some(5)]));
 }
 
+/// A series in which whole days may have no reading.
+fn draw_days(random: &mut Random) -> Vec<i32> {
+    let n = 1 + random.below(130) as usize;
+    let mut readings = draw_series(random, n);
+    readings.chunks_mut(DAY).filter(|_| random.once_in(3)).for_each(|day| day.fill(GAP));
+    readings
+}
+
+/// Days of such series, and of tables changed at up to three places.
+#[test]
+fn days_after_gaps_of_days() {
+    let mut random = Random::new(13);
+    let mut told = BTreeSet::new();
+    for _ in 0..20_000 {
+        let readings = draw_days(&mut random);
+        let n = readings.len();
+        let (mut coefficients, mut codes) = table_of(&readings);
+        for _ in 0..random.below(4) {
+            damage(&mut random, &mut coefficients, &mut codes);
+        }
+        let asked = Asked { n, coefficients, codes, column: Column { a: 0, b: n, w: 1, k: 0 }, d: 0 };
+        told.extend((0..=n.div_ceil(DAY)).map(|day| asked.compare_day(day)));
+    }
+    assert!(told.into_iter().eq([None, Some(4), Some(5)]));
+}
+
 #[test]
 fn every_window_and_depth_of_every_length() {
     let mut random = Random::new(71);
@@ -158,6 +186,27 @@ fn scanned_readings() {
         let asked = Asked { n, coefficients, codes, column, d: places(n).ilog2() as usize };
         assert_eq!(scan::finished(n, &readings, column), asked.finished().map(|told| told.answer), "{asked:?}");
         assert_eq!(scan::stopped(n, &readings, column), asked.stopped().map(|told| told.inner), "{asked:?}");
+    }
+}
+
+#[test]
+fn scanned_days() {
+    let mut random = Random::new(14);
+    let mut told = BTreeSet::new();
+    for _ in 0..20_000 {
+        let readings = draw_days(&mut random);
+        let n = readings.len();
+        let (coefficients, codes) = table_of(&readings);
+        for day in 0..=n.div_ceil(DAY) {
+            let by_second = second::day_change(n as u64, &coefficients, &codes, day as u64).map_err(refusal);
+            assert_eq!(scan::day_change(n, &readings, day), by_second, "{day} {readings:?}");
+            assert_eq!(number(&scan::day_change(n, &readings[1..], day)), Some(3));
+            told.insert(number(&by_second));
+        }
+    }
+    assert!(told.into_iter().eq([None, Some(5)]));
+    for n in [0, 16_385, usize::MAX] {
+        assert_eq!(number(&scan::day_change(n, &[], 0)), Some(1));
     }
 }
 

@@ -11,6 +11,7 @@ pub type WriteRecord = fn(usize, &[i32], &[u8], &mut [u8]) -> Result<usize, Refu
 pub type ReadRecord = fn(&[u8], &mut [i32], &mut [u8]) -> Result<usize, Refusal>;
 pub type DrawStopped = fn(usize, &[i32], &[u8], Column, usize) -> Result<Stopped, Refusal>;
 pub type DrawFinished = fn(usize, &[i32], &[u8], Column) -> Result<Finished, Refusal>;
+pub type ChangeDay = fn(usize, &[i32], &[u8], usize) -> Result<Option<i32>, Refusal>;
 
 pub const MAKE: [Make; 2] = [plain::make, fast::make];
 pub const TURN_BACK: [TurnBack; 2] = [plain::turn_back, fast::turn_back];
@@ -18,6 +19,7 @@ pub const WRITE_RECORD: [WriteRecord; 2] = [plain::write_record, fast::write_rec
 pub const READ_RECORD: [ReadRecord; 2] = [plain::read_record, fast::read_record];
 pub const STOPPED: [DrawStopped; 2] = [plain::stopped, fast::stopped];
 pub const FINISHED: [DrawFinished; 2] = [plain::finished, fast::finished];
+pub const DAY_CHANGE: [ChangeDay; 2] = [plain::day_change, fast::day_change];
 
 /// A refusal in the shared words.
 pub fn refusal(second::Refusal { number, place }: second::Refusal) -> Refusal {

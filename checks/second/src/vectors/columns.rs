@@ -1,6 +1,7 @@
 //! The choice of calls on columns.
 
 mod call;
+mod days;
 
 use super::made::{mixed, Made, SEVEN_HOURS};
 use super::{has, GREATEST_NUMBER};
@@ -33,7 +34,7 @@ pub fn calls() -> Vec<Call> {
     }
     calls.extend(causes());
     calls.extend(damaged(&mut random));
-    calls.extend(days());
+    calls.extend(days::calls(&mut random));
     calls.extend(joins());
     calls.extend(longest());
     calls
@@ -204,24 +205,6 @@ fn with_each_changed(made: &Made) -> Vec<Made> {
     let codes = pairs.map(|(one, other)| made.with_code(one, 9).with_code(other, 9));
     let details = (1..made.p() / 2).map(|node| made.with_coefficients(2 * node, &[-2_000_001]));
     codes.chain(details).collect()
-}
-
-/// Whole days, short ones and ones without a reading; days that there are not.
-fn days() -> Vec<Call> {
-    let falling = |n: i32| (0..n).map(|hour| 30 - hour).collect::<Vec<i32>>();
-    let mut calls = Vec::new();
-    for n in [1, 23, 24, 25, 49] {
-        let made = Made::of(&falling(n));
-        calls.extend((0..=made.n / 24 + 1).chain(FAR).map(|day| changing(&made, day)));
-    }
-    let gaps: Vec<i32> = (0..49).map(|hour| if (20..48).contains(&hour) { GAP } else { hour }).collect();
-    let gaps = Made::of(&gaps);
-    calls.extend((0..3).map(|day| changing(&gaps, day)));
-    calls.push(changing(&Made::of(&[GAP; 3]), 0));
-    // The day before is unsound: nobody looks there.
-    calls.extend((0..3).map(|day| changing(&gaps.with_code(2, 9), day)));
-    calls.extend(gaps.damaged().iter().take(16).map(|table| changing(table, 0)));
-    calls
 }
 
 /// Joined in every way: the answers of the printer's three columns, none, and numbers that no column answers.

@@ -1,4 +1,5 @@
--- `change_of` subtracts where there is a reading; both grams are small. Assumes nothing.
+-- `change_of` subtracts the latest reading before the day, or the day's own first; all of them are small. Assumes
+-- nothing.
 use Rattle.kit.proofs.{ap, needs}
 use Rattle.words.specs.declared.{Answer.Answer, DayChange.DayChange}
 use Rattle.columns.specs.Drawing.{SmallAnswer}
@@ -6,20 +7,35 @@ use Rattle.days.proofs.Daily as laws
 use Rattle.days.proofs.change_of.Statement.{statement}
 use Rattle.days.proofs.change_of.Tie as tie
 
--- Both readings are small.
-held : (c : tie.After-answer) → SmallAnswer (Answer.Found (c .answer .given .0 .0))
-held c = rw (c .answer .given .1) at (c .before .before .pre)
-
 sub-grams : tie.Need-sub-grams
 sub-grams c =
-    let answered = c .before .before .before in
-    laws.change-fits (answered .answer .given .0 .0) (held answered)
+    let start = c .before .before .before .before in
+    laws.change-fits _ _ (start .pre .1 .1) (start .pre .1 .0)
+
+-- Where there is a reading before the day, which is small.
+abbrev foundAt : tie.After-struct-told3 → tie.After-earlier
+foundAt c = c .before .before .before .before .before
+
+earlier-small : (c : tie.After-earlier) → SmallAnswer (Answer.Found (c .earlier .given .0 .0))
+earlier-small c = rw (c .earlier .given .1) at (c .before .before .pre .0)
+
+sub-change : tie.Need-sub-change
+sub-change c =
+    let found = foundAt c in
+    laws.change-fits _ _ (found .before .before .pre .1 .1) (earlier-small found .1)
+
+returns : tie.Need-returns
+returns c =
+    let none = c .before .before in
+    let start = none .before .before in
+    rw (none .enum-told .given .1) (ap DayChange.Grams (laws.change-is _ _ (start .pre .1 .1) (start .pre .1 .0)))
 
 returns-2 : tie.Need-returns-2
 returns-2 c =
-    let answered = c .before .before .before in
-    rw (answered .answer .given .1)
-    (ap DayChange.Grams (laws.change-is (answered .answer .given .0 .0) (held answered)))
+    let found = foundAt c in
+    rw (found .earlier .given .1)
+    (ap DayChange.Grams (laws.change-is _ _ (found .before .before .pre .1 .1) (earlier-small found .1)))
 
 pub change-of-spec : {M : Type 1} → statement M
-change-of-spec = tie.close (tie.spec (λ c. search needs) (λ c. search needs) sub-grams (λ c. search needs) returns-2)
+change-of-spec =
+    tie.close (tie.spec (λ c. search needs) sub-grams (λ c. search needs) sub-change returns returns-2)

@@ -1,4 +1,5 @@
--- `day_change` makes the checks in their order, and then finishes the column of the day's hours. Assumes nothing.
+-- `day_change` makes the checks in their order, finishes the column of the day's hours, and hands its answer on.
+-- Assumes nothing.
 use Rattle.kit.proofs.{_*_, _≤_, arith, needs}
 use Rattle.words.specs.{dayHours}
 use Rattle.sizes.specs.Lent.{Passed}
@@ -39,10 +40,17 @@ finished-over-requires c κs =
     let p = passed (there .before .before) in
     (p .places, p .table)
 
-change-of-requires : tie.Need-change-of-requires
-change-of-requires c κs =
+change-given-requires : tie.Need-change-given-requires
+change-given-requires c κs =
     let told = c .before in
-    told .before .before .finished-over .ensures .answers .small _ _ (told .answer .given .1)
+    let done = told .before .before in
+    let there = done .before .before in
+    let p = passed (there .before .before) in (
+      p .places,
+      p .table,
+      there .before .if1 .left,
+      done .finished-over .ensures .answers .small _ _ (told .answer .given .1),
+    )
 
 returns-3 : tie.Need-returns-3
 returns-3 c =
@@ -63,13 +71,13 @@ returns-5 c =
     let told = c .before .before in
     let done = told .before .before in
     let there = done .before .before in
-    rw (c .change-of .ensures)
-    (laws.day-answered _ _ _ _ (passed (there .before .before) .checks) (there .if2 .left) _
-    (done .before .hours-of .ensures) _ _ (rw (told .answer .given .1) at (done .finished-over .ensures)))
+    laws.day-answered _ _ _ _ (passed (there .before .before) .checks) (there .if2 .left) _
+    (done .before .hours-of .ensures) _ _ (rw (told .answer .given .1) at (done .finished-over .ensures)) _
+    (c .change-given .ensures)
 
 pub day-change-spec : {M : Type 1} → statement M
 day-change-spec =
     tie.close
     (tie.spec (λ c κs. search needs) (λ c. search needs) (λ c. search needs) returns (λ c. search needs) returns-2
-    hours-of-requires finished-over-requires (λ c. search needs) (λ c. search needs) change-of-requires returns-3
+    hours-of-requires finished-over-requires (λ c. search needs) (λ c. search needs) change-given-requires returns-3
     returns-4 returns-5)

@@ -1,7 +1,7 @@
 //! Before anything is timed: every side gives what the second program gives on the work that is measured.
 
 use bench::scan;
-use bench::season::{Window, N, W};
+use bench::season::{Window, DAYS, N, W};
 use bench::sides::{Fast, Plain, Proved, Store};
 use bench::words::{Answer, Column, Finished, LowHigh, Reading, Stopped, Summary};
 use bench::work::{Call, Side, Work, L};
@@ -13,7 +13,7 @@ pub fn held_against_second() -> [Work; 4] {
     let expected = by_second();
     for side in Side::STORES {
         let work = &mut works[side as usize];
-        for call in Call::ALL.into_iter().filter(|call| !call.is_of_columns()) {
+        for call in Call::ALL.into_iter().filter(|call| call.is_of_whole_table()) {
             assert!(work.run(side, call), "{} is not taken on the {} side", call.name(), side.name());
         }
         assert!(work.written == expected.written, "the {} side writes something else", side.name());
@@ -23,6 +23,9 @@ pub fn held_against_second() -> [Work; 4] {
         for k in 0..W {
             hold_column(&expected, window, k);
         }
+    }
+    for day in 0..DAYS {
+        hold_day(&expected, day);
     }
     works
 }
@@ -61,6 +64,15 @@ fn hold_column(Work { readings, written, .. }: &Work, window: Window, k: usize) 
     let column = Column { a, b, w: W, k };
     assert_eq!(scan::finished(N, readings, column), Ok(finished.answer), "{column:?}");
     assert_eq!(scan::stopped(N, readings, column), Ok(stopped.inner), "{column:?}");
+}
+
+/// Fails unless every side gives the change of a day as the second program does.
+fn hold_day(Work { readings, written, .. }: &Work, day: usize) {
+    let change = second::day_change(N as u64, &written.coefficients, &written.codes, day as u64).expect("taken");
+    assert_eq!(Proved::day_change(written, day), Some(change), "day {day}");
+    assert_eq!(Plain::day_change(written, day), Some(change), "day {day}");
+    assert_eq!(Fast::day_change(written, day), Some(change), "day {day}");
+    assert_eq!(scan::day_change(N, readings, day), Ok(change), "day {day}");
 }
 
 fn range(second::LowHigh { low, high }: second::LowHigh) -> LowHigh {

@@ -14,7 +14,7 @@ use std::io;
 use std::path::Path;
 use std::process::ExitCode;
 
-use bench::season::{season, N, W, WINDOWS};
+use bench::season::{season, DAYS, N, W, WINDOWS};
 use bench::words::GAP;
 use bench::work::{Call, Side, L};
 
@@ -49,9 +49,10 @@ fn explain() {
     let [hours, columns] = [N, W].map(|number| tables::with_commas(number as u64));
     println!("Nanoseconds a reading, {hours} hours of which {gaps} are gaps; nanoseconds a column, {columns}");
     println!("columns of each window, which is the whole series or one of {WINDOWS} drawn ones, stopped at depth");
-    println!("{L}; milliseconds a run of the printer, from a file to a pipe; and instructions of the same. A");
-    println!("ratio is proved / the side before it. The sides take turns, all but the printers in one process;");
-    println!("buffers are made once and not cleared. Before, every side gave what the second program gives.");
+    println!("{L}; nanoseconds a day, {DAYS} days; milliseconds a run of the printer, from a file to a pipe; and");
+    println!("instructions of the same. A ratio is proved / the side before it. The sides take turns, all but the");
+    println!("printers in one process; buffers are made once and not cleared. Before, every side gave what the");
+    println!("second program gives.");
 }
 
 fn main() -> ExitCode {

@@ -3,7 +3,7 @@
 use std::hint::black_box;
 use std::time::{Duration, Instant};
 
-use bench::season::{N, W, WINDOWS};
+use bench::season::{DAYS, N, W, WINDOWS};
 use bench::work::{Call, Side, Work};
 
 /// How long each call is measured, and the least number of rounds that count.
@@ -30,12 +30,13 @@ impl Times {
     }
 }
 
-/// Readings or columns of one run of a call.
+/// Readings, columns or days of one run of a call.
 pub fn units(call: Call) -> f64 {
     let units = match call {
-        _ if !call.is_of_columns() => N,
-        _ if call.is_of_drawn_windows() => WINDOWS * W,
-        _ => W,
+        Call::Make | Call::TurnBack | Call::WriteRecord | Call::ReadRecord => N,
+        Call::FinishedWhole | Call::StoppedWhole => W,
+        Call::FinishedDrawn | Call::StoppedDrawn => WINDOWS * W,
+        Call::DayChange => DAYS,
     };
     units as f64
 }
