@@ -1,1 +1,2 @@
+-- What the contracts of the days say beside the definitions.
 pub mod Given

@@ -10,13 +10,11 @@ use words::Timestamp;
 ghost use mathlib.Core.Path.{_≡_};
 ghost use Prim.Native.Nat.{_*_, _≤_, _<_};
 ghost use Rattle.words.specs.Constants.{largestHours, dayHours};
-ghost use Rattle.om3.specs.Series.{P};
 ghost use Rattle.om3.specs.Table.{lent};
 ghost use Rattle.om3.specs.Days.{day as dayOf, before, changeOf, dayChange};
-ghost use Rattle.sizes.specs.Lent.{TableLent};
 ghost use Rattle.columns.specs.Drawing.{SmallAnswer};
 ghost use Rattle.words.specs.declared.Answer.the-variants.{Found};
-ghost use Rattle.days.specs.Given.{ChangeGiven};
+ghost use Rattle.days.specs.Given.{MayBeGiven, ChangeGiven};
 
 // The hours of day d of n hours. Needs it to have some, and n to be at most 16,384.
 fn hours_of(n: usize, d: usize) -> Column
@@ -79,7 +77,7 @@ fn change_given(
     d: usize,
     own: Answer,
 ) -> DayChange
-    requires { ⌜ (p ≡ P n) × TableLent n (now coefficients) (now codes) × (d < largestHours) × SmallAnswer own ⌝ }
+    requires { ⌜ MayBeGiven n (now coefficients) (now codes) p d own ⌝ }
     ensures { λ r. ⌜ ChangeGiven n (now (coefficients .entry)) (now (codes .entry)) d own r ⌝ }
 {
     match own {

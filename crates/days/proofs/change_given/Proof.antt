@@ -11,7 +11,7 @@ startOf c = c .before .before .before .before
 finished-over-requires : tie.Need-finished-over-requires
 finished-over-requires c κs =
     let asked = startOf (c .before) .pre in
-    (asked .0, asked .1)
+    (asked .places, asked .table)
 
 change-of-requires : tie.Need-change-of-requires
 change-of-requires c κs =
@@ -19,7 +19,7 @@ change-of-requires c κs =
     let done = told .before .before in
     let found = done .before .before in (
       done .finished-over .ensures .answers .small _ _ (told .answer .given .1),
-      rw (found .before .own .given .1) at (startOf found .pre .3),
+      rw (found .before .own .given .1) at (startOf found .pre .small),
     )
 
 returns : tie.Need-returns

@@ -45,12 +45,13 @@ change-given-requires c κs =
     let told = c .before in
     let done = told .before .before in
     let there = done .before .before in
-    let p = passed (there .before .before) in (
-      p .places,
-      p .table,
-      there .before .if1 .left,
-      done .finished-over .ensures .answers .small _ _ (told .answer .given .1),
-    )
+    let p = passed (there .before .before) in
+    record {
+      places = p .places;
+      table = p .table;
+      below = there .before .if1 .left;
+      small = done .finished-over .ensures .answers .small _ _ (told .answer .given .1);
+    }
 
 returns-3 : tie.Need-returns-3
 returns-3 c =
