@@ -1,4 +1,6 @@
 // Answers of finished columns: two of them joined.
+#![tactic(auto)]
+
 ghost use Rattle.std.specs.Prelude.{◌≡◌};
 ghost use Rattle.om3.specs.Joined.{joined};
 

@@ -1,4 +1,6 @@
 // What the tablet draws: a column of a window, stopped at a depth or finished.
+#![tactic(auto)]
+
 ghost use Rattle.std.specs.Prelude.{◌≡◌, ◌+◌, ◌*◌, ◌≤◌};
 ghost use Rattle.words.specs.Constants.{largest_hours};
 ghost use Rattle.om3.specs.Series.{levels, P};

@@ -1,4 +1,6 @@
 // A day: its hours, and what changed from the latest reading before it to its last.
+#![tactic(auto)]
+
 ghost use Rattle.std.specs.Prelude.{◌≡◌, ◌*◌, ◌≤◌, ◌<◌};
 ghost use Rattle.words.specs.Constants.{largest_hours, day_hours};
 ghost use Rattle.om3.specs.Table.{lent};

@@ -1,4 +1,6 @@
 // Examining a table: whether each of its nodes is sound, or which is the first that is not.
+#![tactic(auto)]
+
 ghost use Rattle.std.specs.Prelude.{◌≡◌, ◌+◌, ◌*◌, ◌/◌, ◌^◌, ◌≤◌, ◌<◌, length};
 ghost use Rattle.words.specs.Bounds.{Readings};
 ghost use Rattle.om3.specs.Series.{P};

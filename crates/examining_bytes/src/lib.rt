@@ -1,4 +1,6 @@
 // Examining a table where it stands in the bytes of a record: no buffer is lent for it, and nothing is written.
+#![tactic(auto)]
+
 ghost use Rattle.std.specs.Prelude.{◌≡◌, ◌+◌, ◌*◌, ◌/◌, ◌≤◌, length};
 ghost use Rattle.words.specs.Bounds.{Readings};
 ghost use Rattle.om3.specs.Table.{lent};

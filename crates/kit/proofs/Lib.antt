@@ -38,6 +38,3 @@ pub use mir.Facts.{to_z_pos, to_z-of_z}
 -- What tactics reason with.
 pub use native.Mathlib.Omega.{arith}
 pub use borrow.Author.Rules.{rules}
--- Proofs by hand.
-pub mod ByHand
-pub mod Walk

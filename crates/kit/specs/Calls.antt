@@ -1,21 +1,23 @@
 -- A call that asks nothing and promises one fact, in the kit's own terms: of the clauses that it reads from the source
--- of the call, and of the routine that it makes of its code. Each crate says of its public calls that they are such
+-- of the call, and of the routine that the call's name means where it has the call's code. Each crate says of its public calls that they are such
 -- calls, and which fact each promises (proofs/Clauses). Assumes nothing.
 --
 --   Promise T            a fact about a call's arguments, its answer, and its parameters as it leaves them; T is how
 --                        the kit reads the call's parameters and its answer
 --   plain T 𝓤 promise    the contract without a ghost value that asks nothing and promises that fact
 --   Result T B           what a call gives: its answer, and of its parameters, as it leaves them, the lent buffers
---   Call T c f promise result
---                        the clauses c of the call are that contract, its routine f meets it, and it gives one result
+--   Call T c code name promise result
+--                        the clauses c of the call are that contract, the routine of its name meets it wherever that
+--                        name has its code, and it gives one result
 --   second, third, ..    the parameter at that place
 use mathlib.Core.{Path.◌≡◌}
 use Rattle.std.specs.Prelude.{List, [], ◌∷◌}
 use seplogic.Ra.Ura.{Ura}
 use base.Logic.{SProp}
-use prog.{Memory.Memory, Wp.Heap, Model.Model, Routine.Routine}
+use mir.Syntax.{Callee}
+use prog.{Memory.Memory, Wp.Heap, Model.Model, Routine.Routine, Wired.Code, Wired.Wired}
 use types.Logic.{Logic}
-use contract.{Lifetimes.Lfts, Monad.Fun, Monad.fact, Notation.connectives, Running.Running, Running.GhostRules}
+use contract.{Lifetimes.Lfts, Monad.Fun, Monad.fact, Notation.connectives, Running.Running}
 use denote.{RattleType.RattleType, RattleType.Denots, Signature.types_at}
 use denote.Triple.{Entry.Res, Spec.Meets}
 use denote.Triple.Clauses.{Ended, AtExit, Clauses, closing}
@@ -66,14 +68,14 @@ module _ (T : Ended) where
   abbrev pub Result : Type 0 → Type 0
   Result B = (κs : Lfts T.signature.lifetimes) → Res T.signature κs → AtExit T κs → B
 
-  -- In every model of the kit's logic the clauses are that contract, and the routine meets it; and two results that the
-  -- contract allows are the same.
-  pub record Call (written : Written) (routine : Routine) (promise : Promise) {B : Type 0} (result : Result B)
+  -- In every model of the kit's logic the clauses are that contract, and wherever the call's name has its code, what the
+  -- name means meets it; and two results that the contract allows are the same.
+  pub record Call (written : Written) (code : Code) (name : Callee) (promise : Promise) {B : Type 0} (result : Result B)
       : Type 2 where
     pub clauses : {M : Type 1} {𝓤 : Ura M} (𝓛 : Logic 𝓤) (mem : Memory → SProp 𝓤)
         (run : Routine → Fun 𝓤) → written M 𝓤 𝓛 mem run ≡ plain 𝓤 promise
-    pub meets : {M : Type 1} {𝓤 : Ura M} (𝓛 : Logic 𝓤) (𝓜 : Model 𝓤 𝓛.H) (𝓡 : Running 𝓤 𝓛.H 𝓜)
-        → Meets 𝓛 T.signature (𝓡.run routine) (closing 𝓛 T (plain 𝓤 promise))
+    pub meets : {M : Type 1} (𝓤 : Ura M) (𝓛 : Logic 𝓤) (𝓜 : Model 𝓤 𝓛.H) (𝓡 : Running 𝓤 𝓛.H 𝓜) → Wired 𝓡.env code
+        → Meets 𝓛 T.signature (𝓡.run (𝓡.env name)) (closing 𝓛 T (plain 𝓤 promise))
     pub one : (κs : Lfts T.signature.lifetimes) (a : Denots (types_at T.signature.params κs))
         (r r' : Res T.signature κs) (e e' : AtExit T κs) → promised promise κs a r e
         → promised promise κs a r' e' → result κs r e ≡ result κs r' e'

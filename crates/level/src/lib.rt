@@ -1,4 +1,6 @@
 // One level of the table.
+#![tactic(auto)]
+
 ghost use Rattle.std.specs.Prelude.{◌≡◌, length};
 ghost use Rattle.om3.specs.Level.{level_stretch, places_of};
 

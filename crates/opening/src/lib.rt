@@ -1,4 +1,6 @@
 // Opening a record, and asking it for single coefficients without unpacking it. [level 3]
+#![tactic(auto)]
+
 ghost use Rattle.std.specs.Prelude.{◌≡◌};
 ghost use Rattle.om3.specs.RecordCalls.{opening as opening_of, asking_view};
 

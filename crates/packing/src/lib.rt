@@ -1,4 +1,6 @@
 // Numbers and coefficients as bytes, the highest byte first. [record 1]
+#![tactic(auto)]
+
 ghost use Rattle.std.specs.Prelude.{◌≡◌, ◌+◌, ◌*◌, ◌/◌, ◌^◌, ◌≤◌, ◌<◌, length};
 ghost use mathlib.Core.List.{flat_map};
 ghost use Rattle.om3.specs.Bytes.{bytes_of, number_from, InThree, bits_of, signed_of, three_bytes};

@@ -4,6 +4,8 @@
 // What is read and what is printed is stated and proved in `parsing` and `printing`, and how it comes and goes in
 // `streams`. Output is written piece by piece. Where the system cannot read or write, one line on standard error says
 // so; input that was not read to its end is not drawn.
+#![tactic(auto)]
+
 use printing::Drawing;
 use streams::Input;
 

@@ -6,6 +6,8 @@
 //
 // What is read and printed is stated and proved where it stands. As in `vector_lines`, which reads the numbers, the
 // contracts here say no more than safety needs.
+#![tactic(auto)]
+
 ghost use Rattle.std.specs.Prelude.{◌≤◌, ◌<◌};
 
 use parsing::Text;

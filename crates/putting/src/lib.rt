@@ -1,5 +1,7 @@
 // Printing into a lent buffer: bytes, numbers, grams and the line of a refusal. Each function prints from a place on,
 // needs room there for the longest that it can print, and answers the place after it.
+#![tactic(auto)]
+
 ghost use Rattle.std.specs.Prelude.{◌≡◌, [], ◌∷◌, ◌++◌, ◌+◌, ◌≤◌, ◌<◌, length};
 ghost use Rattle.om3.specs.Text.{digit};
 ghost use Rattle.om3.specs.Printed.{decimal, signed_decimal, refusal_line};

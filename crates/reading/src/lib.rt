@@ -1,5 +1,7 @@
 // Reading a house record into a table. The table is examined where it stands in the record's bytes, so that nothing is
 // written before it is known to be sound.
+#![tactic(auto)]
+
 ghost use Rattle.examining_bytes.specs.Packed.{PackedTable};
 ghost use Rattle.reading.specs.Reading.{PartsRead, RecordRead};
 

@@ -5,6 +5,8 @@
 // What is read and what is printed is stated and proved in `parsing` and `old_text`, and how it comes and goes in
 // `streams`. Output is written piece by piece. Where the system cannot read or write, one line on standard error says
 // so; input that was not read to its end is not rebuilt.
+#![tactic(auto)]
+
 use old_text::Rebuilding;
 use streams::Input;
 

@@ -1,5 +1,7 @@
 // The boundary: the calls as C and Rust link them. Numbers pass as themselves, a slice as a pointer and then a length,
 // and an answer as a struct by value.
+#![tactic(auto)]
+
 ghost use Rattle.std.specs.Prelude.{◌≡◌, length};
 ghost use Rattle.om3.specs.Table.{lent};
 ghost use Rattle.om3.specs.Level.{level_stretch};

@@ -1,4 +1,6 @@
 // What a visit has seen of a node, and of two halves together.
+#![tactic(auto)]
+
 ghost use Rattle.std.specs.Prelude.{◌≡◌, ◌+◌, ◌^◌, ◌<◌};
 ghost use Rattle.sight.specs.Seen.{unopened_of, both_inner, both_seen};
 

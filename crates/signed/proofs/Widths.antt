@@ -33,7 +33,7 @@ back-sub a b h = omega (arith, ≡-parts (to_z-of_z h), sub_parts a b)
 
 -- The same from the bare bound, as a field, an element or a call's result has it.
 pub reads-back : (z : ℤ) → mag z < 2 ^ 31 → to_z w32 (of_z w32 z) ≡ z
-reads-back z h = to_z-of_z (record { sfits = h })
+reads-back z h = to_z-of_z {w = w32} (record { sfits = h })
 
 -- A number that is handed to a function is read back from its bits: what the function tested of it holds of it.
 pub told : (test : ℤ → Bool) (z : ℤ) → SFits w32 z → {r b : Bool} → r ≡ test (to_z w32 (of_z w32 z)) → r ≡ b → test z ≡ b

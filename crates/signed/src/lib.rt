@@ -1,4 +1,6 @@
 // Signed numbers: the size of one, and laws for the proofs of the crates above.
+#![tactic(auto)]
+
 ghost use Rattle.std.specs.Prelude.{◌≡◌, nat_abs};
 
 // How far a number is from 0.

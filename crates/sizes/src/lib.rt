@@ -1,4 +1,6 @@
 // How large a table and its record are, and whether a table is lent whole: checks 1 and 3.
+#![tactic(auto)]
+
 ghost use Rattle.std.specs.Prelude.{◌≡◌, ◌||◌, ◌+◌, ◌/◌, ◌^◌, ◌≤◌};
 ghost use Rattle.words.specs.Constants.{largest_level, largest_hours};
 ghost use Rattle.om3.specs.Series.{bad_hours, P};

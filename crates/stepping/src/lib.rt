@@ -1,5 +1,7 @@
 // One node of a table as it is reached by going down, and one examined step from it to its halves: what the visit of
 // the nodes that a column opens and the walk to a first or last reading have in common.
+#![tactic(auto)]
+
 pub mod by_parts;
 pub mod nodes;
 

@@ -1,6 +1,8 @@
 // The streams of a program that reads a text and prints: standard input is read whole, in pieces of 4,096 bytes at
 // most, as they come, until a read brings none; what is printed is written to standard output. No contract can say what
 // the system reads and writes; proved is that all of it is safe and ends.
+#![tactic(auto)]
+
 use libc::types::timespec;
 use parsing::Text;
 

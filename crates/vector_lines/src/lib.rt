@@ -7,6 +7,8 @@
 //
 // No contract can say what is read or written, so the functions here are proved to be safe and to end, and their
 // contracts say no more than that needs.
+#![tactic(auto)]
+
 mod input;
 mod output;
 

@@ -8,6 +8,8 @@
 //
 // What the calls answer is stated and proved where they stand. As in `vector_lines`, which reads and writes the
 // numbers, the contracts here say no more than safety needs.
+#![tactic(auto)]
+
 mod column_calls;
 mod record_calls;
 mod table_calls;

@@ -1,4 +1,6 @@
 // The view of a record: its bytes and P, to be asked for single coefficients without unpacking. [level 3] [forms 13]
+#![tactic(auto)]
+
 ghost use Rattle.std.specs.Prelude.{◌≡◌};
 ghost use Rattle.om3.specs.RecordCalls.{asking_view, asking};
 ghost use Rattle.view.specs.View.{view_places, view_of};

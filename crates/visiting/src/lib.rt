@@ -1,5 +1,7 @@
 // Visiting the nodes of a table that a column opens: its outer and its inner range, or the first opened node that is
 // unsound.
+#![tactic(auto)]
+
 ghost use Rattle.std.specs.Prelude.{◌≡◌, ◌+◌, ◌≤◌};
 ghost use Rattle.words.specs.Constants.{largest_hours};
 ghost use Rattle.om3.specs.Series.{levels, P};

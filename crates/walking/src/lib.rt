@@ -1,4 +1,6 @@
 // Walking down a table from a node to its first or to its last reading.
+#![tactic(auto)]
+
 ghost use Rattle.std.specs.Prelude.{◌≡◌};
 ghost use Rattle.stepping.specs.Nodes.{Below};
 ghost use Rattle.walking.specs.Walking.{takes_left, WalkedFrom};

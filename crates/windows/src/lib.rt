@@ -1,4 +1,6 @@
 // A window drawn in columns: checks 5 and 6, and where a column begins and ends.
+#![tactic(auto)]
+
 ghost use Rattle.std.specs.Prelude.{◌≡◌, not, ◌&&◌, ◌||◌, ◌≤◌, leb, ltb, eqb};
 ghost use Rattle.words.specs.Constants.{largest_hours, most_columns};
 ghost use Rattle.om3.specs.Checks.{answer_by};

@@ -1,4 +1,6 @@
 // Writing the house record of a table.
+#![tactic(auto)]
+
 ghost use Rattle.std.specs.Prelude.{◌≡◌, ◌≤◌, length};
 ghost use Rattle.om3.specs.Table.{lent};
 ghost use Rattle.om3.specs.Calls.{filled};
