@@ -1,8 +1,26 @@
 // The numbers and the buffers of calls, read from the input.
 ghost use Rattle.std.specs.Prelude.{◌≡◌, ◌≤◌, length, take};
 
+use std::io::Read;
+
+// Reads standard input, as far as there is room for it, and tells how many bytes came. A read that fails ends it.
+pub fn read_input(rt: &impl Input, room: &mut [u8]) -> usize
+    ensures { result ≤ length room.new }
+{
+    let mut reader = rt.reader();
+    let mut done = 0;
+    while done < room.len() {
+        let got = reader.read(&mut room[done..]).unwrap_or(0);
+        if got == 0 {
+            break;
+        }
+        done += got;
+    }
+    done
+}
+
 // A number of the input, by its sign and its size, how many times it stands there, and where the next one begins.
-#[derive(Drop)]
+#[derive(Clone, Copy)]
 pub struct Number {
     pub negative: bool,
     pub size: u64,
@@ -11,14 +29,14 @@ pub struct Number {
 }
 
 // Digits of the input: the number they are, and the place after the last.
-#[derive(Drop)]
+#[derive(Clone, Copy)]
 struct Digits {
     size: u64,
     end: usize,
 }
 
 // A buffer taken from the input: its length, and where the number after its content begins.
-#[derive(Drop)]
+#[derive(Clone, Copy)]
 pub struct Lent {
     pub length: usize,
     pub next: usize,

@@ -14,7 +14,7 @@ mod output;
 
 ghost use Rattle.std.specs.Prelude.{◌≡◌, length};
 
-pub use input::{grams_of, lend_bytes, lend_counts, lend_grams, number_at};
+pub use input::{grams_of, lend_bytes, lend_counts, lend_grams, number_at, read_input};
 pub use output::{print_bytes, print_end, print_grams, print_head, print_more, print_more_grams};
 
 // How long the input may be.

@@ -1,2 +1,0 @@
--- What the proofs of lending a buffer rest on.
-pub mod Within
