@@ -10,12 +10,13 @@ use printing::Drawing;
 use streams::Input;
 
 // Writes all of this to standard output, and answers whether it could.
-fn write_piece(piece: &[u8]) -> bool {
-    streams::write_piece(b"printer: cannot write standard output", piece)
+fn write_piece(rt: &HostRuntime, piece: &[u8]) -> bool {
+    streams::write_piece(rt, b"printer: cannot write standard output", piece)
 }
 
 // Prints piece after piece, up to the last column that there can be, as far as they can be written.
 fn print_all(
+    rt: &HostRuntime,
     drawing: Drawing,
     coefficients: &[i32; words::LARGEST_HOURS],
     codes: &[u8; words::LARGEST_HOURS / 2],
@@ -24,22 +25,22 @@ fn print_all(
     let mut from = 0;
     while from < words::MOST_COLUMNS {
         let size = printing::print(drawing, coefficients, codes, from, &mut out);
-        if !write_piece(&out[..size]) {
+        if !write_piece(rt, &out[..size]) {
             return;
         }
         from += printing::COLUMNS_AT_ONCE;
     }
 }
 
-fn main() {
+fn main(rt: HostRuntime) {
     let mut line = [0u8; parsing::KEPT];
     let mut hours = [0i32; words::LARGEST_HOURS];
     let mut coefficients = [0i32; words::LARGEST_HOURS];
     let mut codes = [0u8; words::LARGEST_HOURS / 2];
     let cannot = b"printer: cannot read standard input";
-    if let Input::Whole(text) = streams::read_text(cannot, &mut line, &mut hours) {
+    if let Input::Whole(text) = streams::read_text(&rt, cannot, &mut line, &mut hours) {
         let closed = parsing::close(text, &line, &mut hours);
         let drawing = printing::decide(closed, &hours, &mut coefficients, &mut codes);
-        print_all(drawing, &coefficients, &codes);
+        print_all(&rt, drawing, &coefficients, &codes);
     }
 }

@@ -53,6 +53,7 @@ fn read_pieces(
 
 // Prints piece after piece, up to the last column that there can be.
 fn show_pieces(
+    rt: &impl Print,
     drawing: Drawing,
     coefficients: &[i32; words::LARGEST_HOURS],
     codes: &[u8; words::LARGEST_HOURS / 2],
@@ -61,13 +62,13 @@ fn show_pieces(
     let mut from = 0;
     while from < words::MOST_COLUMNS {
         let size = printing::print(drawing, coefficients, codes, from, &mut out);
-        io::write_all(libc::STDOUT_FILENO, &out[..size]);
+        let _ = rt.write_all(&out[..size]);
         from += printing::COLUMNS_AT_ONCE;
     }
 }
 
 // Prints what is printed for a text.
-fn show(text: &[u8], size: usize) {
+fn show(rt: &impl Print, text: &[u8], size: usize) {
     let mut line = [0u8; parsing::KEPT];
     let mut hours = [0i32; words::LARGEST_HOURS];
     let mut coefficients = [0i32; words::LARGEST_HOURS];
@@ -75,26 +76,26 @@ fn show(text: &[u8], size: usize) {
     let read = read_pieces(text, size, &mut line, &mut hours);
     let closed = parsing::close(read, &line, &mut hours);
     let drawing = printing::decide(closed, &hours, &mut coefficients, &mut codes);
-    show_pieces(drawing, &coefficients, &codes);
-    vector_lines::print_end();
+    show_pieces(rt, drawing, &coefficients, &codes);
+    vector_lines::print_end(rt);
 }
 
 // Shows the text whose length begins at `at`, and tells where the next one begins.
-fn show_next(input: &[u8], at: usize) -> usize {
+fn show_next(rt: &impl Print, input: &[u8], at: usize) -> usize {
     let length = vector_lines::number_at(input, at);
     let size = vector_lines::number_at(input, length.next);
     let from = lesser(size.next, input.len());
     let left = input.len() - from;
     let upto = from + lesser(length.size as usize, left);
-    show(&input[from..upto], size.size as usize);
+    show(rt, &input[from..upto], size.size as usize);
     upto
 }
 
 // Shows one text after the other, as long as there is more.
-fn show_all(input: &[u8]) {
+fn show_all(rt: &impl Print, input: &[u8]) {
     let mut at = 0;
     while at < input.len() {
-        let next = show_next(input, at);
+        let next = show_next(rt, input, at);
         if next <= at {
             return;
         }
@@ -102,8 +103,8 @@ fn show_all(input: &[u8]) {
     }
 }
 
-fn main() {
+fn main(rt: HostRuntime) {
     let mut input = vector_lines::no_text();
-    let n = io::read_full(libc::STDIN_FILENO, &mut input);
-    show_all(&input[..n]);
+    let n = vector_lines::read_input(&rt, &mut input);
+    show_all(&rt, &input[..n]);
 }

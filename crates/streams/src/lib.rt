@@ -3,11 +3,20 @@
 // the system reads and writes; proved is that all of it is safe and ends.
 #![tactic(auto)]
 
-use libc::types::timespec;
 use parsing::Text;
+use std::fmt::InlineText;
+use std::io::{Error, ErrorKind, Read};
+use std::thread;
+use std::time::Duration;
+
+// How many bytes a read brings at most.
+const PIECE: usize = 4096;
 
 // Nobody has so many pieces to read or to write: a loop has to end.
 const MOST_TURNS: u64 = u64::MAX;
+
+// How many bytes of a reason are kept: the system's are shorter.
+const REASON: usize = 256;
 
 // What came of standard input: all of it, or not all.
 #[derive(Drop)]
@@ -17,52 +26,58 @@ pub enum Input {
 }
 
 // Waits a moment: a thousand nanoseconds, or how few the system can.
-fn pause() {
-    let asked = timespec {
-        tv_sec: 0,
-        tv_nsec: 1000,
-    };
-    let mut left = timespec {
-        tv_sec: 0,
-        tv_nsec: 0,
-    };
-    libc::nanosleep(&asked, &mut left);
+fn pause(rt: &HostRuntime) {
+    thread::sleep(rt, Duration::from_nanos(1000));
 }
 
 // Whether the read or write that just failed is to be tried again: a signal interrupted it, or its stream was not ready
 // and has had a moment.
-fn again() -> bool {
-    let why = os::errno();
-    if why == libc::EAGAIN {
-        pause();
-        return true;
+fn again(rt: &HostRuntime, why: &Error) -> bool {
+    match why.kind() {
+        ErrorKind::WouldBlock => {
+            pause(rt);
+            true
+        }
+        ErrorKind::Interrupted => true,
+        _ => false,
     }
-    why == libc::EINTR
+}
+
+// Prints these words and the reason as a line on standard error. Of the reason the system's words are printed, without
+// its number.
+fn fail(rt: &HostRuntime, cannot: &[u8], why: &Error) {
+    let text = InlineText::<REASON>::of(why);
+    let reason = match text.as_str().split_once(" (os error ") {
+        Some((words, _)) => words,
+        None => text.as_str(),
+    };
+    let _ = rt.stderr().write_all(cannot);
+    let _ = eprintln!(rt; ": {reason}");
 }
 
 // Reads all of standard input. A read that is tried again has brought no byte. Where the system cannot read, these
 // words and its reason are a line on standard error.
 pub fn read_text(
+    rt: &HostRuntime,
     cannot: &[u8],
     line: &mut [u8; parsing::KEPT],
     hours: &mut [i32; words::LARGEST_HOURS],
 ) -> Input {
-    let mut piece = io::buffer();
+    let mut stdin = rt.stdin();
+    let mut piece = [0u8; PIECE];
     let mut text = parsing::begin();
     let mut left = MOST_TURNS;
     while left > 0 {
-        let got = libc::read(libc::STDIN_FILENO, &mut piece);
-        if got == 0 {
-            return Input::Whole(text);
-        }
-        if got < 0 {
-            if !again() {
-                os::fail(cannot);
-                return Input::Cut;
+        match stdin.read(&mut piece) {
+            Ok(0) => return Input::Whole(text),
+            Ok(n) => text = parsing::read(text, &piece[..n], line, hours),
+            Err(why) => {
+                if !again(rt, &why) {
+                    fail(rt, cannot, &why);
+                    return Input::Cut;
+                }
             }
         }
-        let n = io::count(got, &piece);
-        text = parsing::read(text, &piece[..n], line, hours);
         left -= 1;
     }
     Input::Cut
@@ -70,21 +85,22 @@ pub fn read_text(
 
 // Writes all of this to standard output, and answers whether it could. Where the system cannot write, these words and
 // its reason are a line on standard error.
-pub fn write_piece(cannot: &[u8], piece: &[u8]) -> bool {
+pub fn write_piece(rt: &HostRuntime, cannot: &[u8], piece: &[u8]) -> bool {
     let mut done = 0;
     let mut left = MOST_TURNS;
     while done < piece.len() {
         if left == 0 {
             return false;
         }
-        let put = libc::write(libc::STDOUT_FILENO, &piece[done..]);
-        if put < 0 {
-            if !again() {
-                os::fail(cannot);
-                return false;
+        match rt.write_some(&piece[done..]) {
+            Ok(n) => done += n,
+            Err(why) => {
+                if !again(rt, &why) {
+                    fail(rt, cannot, &why);
+                    return false;
+                }
             }
         }
-        done += io::count(put, &piece[done..]);
         left -= 1;
     }
     true

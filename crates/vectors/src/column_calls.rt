@@ -72,27 +72,27 @@ fn answer_at(text: &[u8], at: usize) -> Given {
 }
 
 // Writes an answer.
-fn show_answer(told: ToldAnswer) {
-    vector_lines::print_head(told.found, told.first_hour);
-    vector_lines::print_more(told.last_hour);
-    vector_lines::print_more_grams(told.first);
-    vector_lines::print_more_grams(told.last);
-    vector_lines::print_more_grams(told.low);
-    vector_lines::print_more_grams(told.high);
-    vector_lines::print_end();
+fn show_answer(rt: &impl Print, told: ToldAnswer) {
+    vector_lines::print_head(rt, told.found, told.first_hour);
+    vector_lines::print_more(rt, told.last_hour);
+    vector_lines::print_more_grams(rt, told.first);
+    vector_lines::print_more_grams(rt, told.last);
+    vector_lines::print_more_grams(rt, told.low);
+    vector_lines::print_more_grams(rt, told.high);
+    vector_lines::print_end(rt);
 }
 
 // Asks for the edges of a column and writes the answer.
-fn show_edges(asked: Asked) {
+fn show_edges(rt: &impl Print, asked: Asked) {
     let told = sagivelume::sagivelume_edges(asked.n, asked.a, asked.b, asked.w, asked.column);
-    vector_lines::print_head(told.number, told.place);
-    vector_lines::print_more(told.from);
-    vector_lines::print_more(told.upto);
-    vector_lines::print_end();
+    vector_lines::print_head(rt, told.number, told.place);
+    vector_lines::print_more(rt, told.from);
+    vector_lines::print_more(rt, told.upto);
+    vector_lines::print_end(rt);
 }
 
 // Stops a column at a depth and writes the answer.
-fn show_stopped(coefficients: &[i32], codes: &[u8], asked: Asked, depth: usize) {
+fn show_stopped(rt: &impl Print, coefficients: &[i32], codes: &[u8], asked: Asked, depth: usize) {
     let told = sagivelume::sagivelume_stopped(
         asked.n,
         coefficients,
@@ -103,17 +103,17 @@ fn show_stopped(coefficients: &[i32], codes: &[u8], asked: Asked, depth: usize) 
         asked.column,
         depth,
     );
-    vector_lines::print_head(told.number, told.place);
-    vector_lines::print_more_grams(told.outer_low);
-    vector_lines::print_more_grams(told.outer_high);
-    vector_lines::print_more_grams(told.inner_low);
-    vector_lines::print_more_grams(told.inner_high);
-    vector_lines::print_more(told.count);
-    vector_lines::print_end();
+    vector_lines::print_head(rt, told.number, told.place);
+    vector_lines::print_more_grams(rt, told.outer_low);
+    vector_lines::print_more_grams(rt, told.outer_high);
+    vector_lines::print_more_grams(rt, told.inner_low);
+    vector_lines::print_more_grams(rt, told.inner_high);
+    vector_lines::print_more(rt, told.count);
+    vector_lines::print_end(rt);
 }
 
 // Finishes a column and writes the answer.
-fn show_finished(coefficients: &[i32], codes: &[u8], asked: Asked) {
+fn show_finished(rt: &impl Print, coefficients: &[i32], codes: &[u8], asked: Asked) {
     let told = sagivelume::sagivelume_finished(
         asked.n,
         coefficients,
@@ -123,31 +123,31 @@ fn show_finished(coefficients: &[i32], codes: &[u8], asked: Asked) {
         asked.w,
         asked.column,
     );
-    vector_lines::print_head(told.number, told.place);
-    vector_lines::print_more(told.count);
-    vector_lines::print_end();
-    show_answer(told.answer);
+    vector_lines::print_head(rt, told.number, told.place);
+    vector_lines::print_more(rt, told.count);
+    vector_lines::print_end(rt);
+    show_answer(rt, told.answer);
 }
 
 // Asks for the change of a day and writes the answer.
-fn show_day_change(n: usize, coefficients: &[i32], codes: &[u8], day: usize) {
+fn show_day_change(rt: &impl Print, n: usize, coefficients: &[i32], codes: &[u8], day: usize) {
     let told = sagivelume::sagivelume_day_change(n, coefficients, codes, day);
-    vector_lines::print_head(told.number, told.place);
-    vector_lines::print_more(told.found);
-    vector_lines::print_more_grams(told.grams);
-    vector_lines::print_end();
+    vector_lines::print_head(rt, told.number, told.place);
+    vector_lines::print_more(rt, told.found);
+    vector_lines::print_more_grams(rt, told.grams);
+    vector_lines::print_end(rt);
 }
 
 // A call for a column's edges, whose n begins at `at`. Tells where the next call begins.
-fn answer_edges(text: &[u8], at: usize) -> usize {
+fn answer_edges(rt: &impl Print, text: &[u8], at: usize) -> usize {
     let asked = column_at(text, at);
     let next = asked.next;
-    show_edges(asked);
+    show_edges(rt, asked);
     next
 }
 
 // A call of stopping a column, whose n begins at `at`. Tells where the next call begins.
-fn answer_stopped(text: &[u8], at: usize) -> usize {
+fn answer_stopped(rt: &impl Print, text: &[u8], at: usize) -> usize {
     let asked = column_at(text, at);
     let deep = vector_lines::number_at(text, asked.next);
     let depth = deep.size as usize;
@@ -157,12 +157,12 @@ fn answer_stopped(text: &[u8], at: usize) -> usize {
     let mut codes = vector_lines::no_codes();
     let second = vector_lines::lend_bytes(text, first.next, &mut codes);
     let k = second.length;
-    show_stopped(&coefficients[..c], &codes[..k], asked, depth);
+    show_stopped(rt, &coefficients[..c], &codes[..k], asked, depth);
     second.next
 }
 
 // A call of finishing a column, whose n begins at `at`. Tells where the next call begins.
-fn answer_finished(text: &[u8], at: usize) -> usize {
+fn answer_finished(rt: &impl Print, text: &[u8], at: usize) -> usize {
     let asked = column_at(text, at);
     let mut coefficients = vector_lines::no_grams();
     let first = vector_lines::lend_grams(text, asked.next, &mut coefficients);
@@ -170,23 +170,23 @@ fn answer_finished(text: &[u8], at: usize) -> usize {
     let mut codes = vector_lines::no_codes();
     let second = vector_lines::lend_bytes(text, first.next, &mut codes);
     let k = second.length;
-    show_finished(&coefficients[..c], &codes[..k], asked);
+    show_finished(rt, &coefficients[..c], &codes[..k], asked);
     second.next
 }
 
 // A call of joining, whose left answer begins at `at`. Tells where the next call begins.
-fn answer_join(text: &[u8], at: usize) -> usize {
+fn answer_join(rt: &impl Print, text: &[u8], at: usize) -> usize {
     let first = answer_at(text, at);
     let second = answer_at(text, first.next);
     let next = second.next;
     let left = first.answer;
     let right = second.answer;
-    show_answer(sagivelume::sagivelume_join(left, right));
+    show_answer(rt, sagivelume::sagivelume_join(left, right));
     next
 }
 
 // A call for the change of a day, whose n begins at `at`. Tells where the next call begins.
-fn answer_day_change(text: &[u8], at: usize) -> usize {
+fn answer_day_change(rt: &impl Print, text: &[u8], at: usize) -> usize {
     let hours = vector_lines::number_at(text, at);
     let asked = vector_lines::number_at(text, hours.next);
     let n = hours.size as usize;
@@ -197,18 +197,18 @@ fn answer_day_change(text: &[u8], at: usize) -> usize {
     let mut codes = vector_lines::no_codes();
     let second = vector_lines::lend_bytes(text, first.next, &mut codes);
     let k = second.length;
-    show_day_change(n, &coefficients[..c], &codes[..k], day);
+    show_day_change(rt, n, &coefficients[..c], &codes[..k], day);
     second.next
 }
 
 // Answers a call of this kind, whose numbers begin at `at`. A number that is no kind is passed over.
-pub fn answer(text: &[u8], kind: u64, at: usize) -> usize {
+pub fn answer(rt: &impl Print, text: &[u8], kind: u64, at: usize) -> usize {
     match kind {
-        21 => answer_edges(text, at),
-        22 => answer_stopped(text, at),
-        23 => answer_finished(text, at),
-        24 => answer_join(text, at),
-        25 => answer_day_change(text, at),
+        21 => answer_edges(rt, text, at),
+        22 => answer_stopped(rt, text, at),
+        23 => answer_finished(rt, text, at),
+        24 => answer_join(rt, text, at),
+        25 => answer_day_change(rt, text, at),
         _ => at,
     }
 }

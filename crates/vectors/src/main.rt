@@ -15,23 +15,23 @@ mod record_calls;
 mod table_calls;
 
 // Answers the call that begins at `at`, and tells where the next one begins. A number that is no kind is passed over.
-fn answer(text: &[u8], at: usize) -> usize {
+fn answer(rt: &impl Print, text: &[u8], at: usize) -> usize {
     let number = vector_lines::number_at(text, at);
     let next = number.next;
     let kind = number.size;
     match kind / 10 {
-        0 => table_calls::answer(text, kind, next),
-        1 => record_calls::answer(text, kind, next),
-        2 => column_calls::answer(text, kind, next),
+        0 => table_calls::answer(rt, text, kind, next),
+        1 => record_calls::answer(rt, text, kind, next),
+        2 => column_calls::answer(rt, text, kind, next),
         _ => next,
     }
 }
 
 // Answers one call after the other, as long as there is more.
-fn answer_all(text: &[u8]) {
+fn answer_all(rt: &impl Print, text: &[u8]) {
     let mut at = 0;
     while at < text.len() {
-        let next = answer(text, at);
+        let next = answer(rt, text, at);
         if next <= at {
             return;
         }
@@ -39,8 +39,8 @@ fn answer_all(text: &[u8]) {
     }
 }
 
-fn main() {
+fn main(rt: HostRuntime) {
     let mut text = vector_lines::no_text();
-    let n = io::read_full(0, &mut text);
-    answer_all(&text[..n]);
+    let n = vector_lines::read_input(&rt, &mut text);
+    answer_all(&rt, &text[..n]);
 }

@@ -10,48 +10,68 @@
 // stretch and its length. Nor have sizes: the places of a table are told, and the bytes of its record.
 
 // Makes a table and writes the answer.
-fn show_make(n: usize, readings: &[i32], coefficients: &mut [i32], codes: &mut [u8]) {
+fn show_make(
+    rt: &impl Print,
+    n: usize,
+    readings: &[i32],
+    coefficients: &mut [i32],
+    codes: &mut [u8],
+) {
     let told = sagivelume::sagivelume_make(n, readings, coefficients, codes);
-    vector_lines::print_head(told.number, told.place);
-    vector_lines::print_grams(coefficients);
-    vector_lines::print_bytes(codes);
-    vector_lines::print_end();
+    vector_lines::print_head(rt, told.number, told.place);
+    vector_lines::print_grams(rt, coefficients);
+    vector_lines::print_bytes(rt, codes);
+    vector_lines::print_end(rt);
 }
 
 // Turns a table back and writes the answer.
-fn show_turn_back(n: usize, coefficients: &[i32], codes: &[u8], hours: &mut [i32]) {
+fn show_turn_back(
+    rt: &impl Print,
+    n: usize,
+    coefficients: &[i32],
+    codes: &[u8],
+    hours: &mut [i32],
+) {
     let told = sagivelume::sagivelume_turn_back(n, coefficients, codes, hours);
-    vector_lines::print_head(told.number, told.place);
-    vector_lines::print_grams(hours);
-    vector_lines::print_end();
+    vector_lines::print_head(rt, told.number, told.place);
+    vector_lines::print_grams(rt, hours);
+    vector_lines::print_end(rt);
 }
 
 // Finds a level and writes the answer.
-fn show_level(n: usize, j: usize, coefficients: &[i32]) {
+fn show_level(rt: &impl Print, n: usize, j: usize, coefficients: &[i32]) {
     let stretch = sagivelume::sagivelume_level(n, j, coefficients);
-    vector_lines::print_head(stretch.start, stretch.length);
-    vector_lines::print_end();
+    vector_lines::print_head(rt, stretch.start, stretch.length);
+    vector_lines::print_end(rt);
 }
 
 // Writes how large a table and its record are.
-fn show_sizes(n: usize) {
+fn show_sizes(rt: &impl Print, n: usize) {
     vector_lines::print_head(
+        rt,
         sagivelume::sagivelume_places(n),
         sagivelume::sagivelume_record_bytes(n),
     );
-    vector_lines::print_end();
+    vector_lines::print_end(rt);
 }
 
 // Rebuilds the series of an old log and writes the answer.
-fn show_rebuild(n: usize, counts: &[u16], flags: &[u8], start: i32, hours: &mut [i32]) {
+fn show_rebuild(
+    rt: &impl Print,
+    n: usize,
+    counts: &[u16],
+    flags: &[u8],
+    start: i32,
+    hours: &mut [i32],
+) {
     let told = sagivelume::sagivelume_rebuild(n, counts, flags, start, hours);
-    vector_lines::print_head(told.number, told.place);
-    vector_lines::print_grams(hours);
-    vector_lines::print_end();
+    vector_lines::print_head(rt, told.number, told.place);
+    vector_lines::print_grams(rt, hours);
+    vector_lines::print_end(rt);
 }
 
 // A call of making, whose n begins at `at`. Tells where the next call begins.
-fn answer_make(text: &[u8], at: usize) -> usize {
+fn answer_make(rt: &impl Print, text: &[u8], at: usize) -> usize {
     let hours = vector_lines::number_at(text, at);
     let n = hours.size as usize;
     let mut readings = vector_lines::no_grams();
@@ -63,12 +83,18 @@ fn answer_make(text: &[u8], at: usize) -> usize {
     let mut codes = vector_lines::no_codes();
     let third = vector_lines::lend_bytes(text, second.next, &mut codes);
     let k = third.length;
-    show_make(n, &readings[..r], &mut coefficients[..c], &mut codes[..k]);
+    show_make(
+        rt,
+        n,
+        &readings[..r],
+        &mut coefficients[..c],
+        &mut codes[..k],
+    );
     third.next
 }
 
 // A call of turning back, whose n begins at `at`. Tells where the next call begins.
-fn answer_turn_back(text: &[u8], at: usize) -> usize {
+fn answer_turn_back(rt: &impl Print, text: &[u8], at: usize) -> usize {
     let series = vector_lines::number_at(text, at);
     let n = series.size as usize;
     let mut coefficients = vector_lines::no_grams();
@@ -80,12 +106,12 @@ fn answer_turn_back(text: &[u8], at: usize) -> usize {
     let mut hours = vector_lines::no_grams();
     let third = vector_lines::lend_grams(text, second.next, &mut hours);
     let h = third.length;
-    show_turn_back(n, &coefficients[..c], &codes[..k], &mut hours[..h]);
+    show_turn_back(rt, n, &coefficients[..c], &codes[..k], &mut hours[..h]);
     third.next
 }
 
 // A call of a level, whose n begins at `at`. Tells where the next call begins.
-fn answer_level(text: &[u8], at: usize) -> usize {
+fn answer_level(rt: &impl Print, text: &[u8], at: usize) -> usize {
     let hours = vector_lines::number_at(text, at);
     let n = hours.size as usize;
     let level = vector_lines::number_at(text, hours.next);
@@ -93,19 +119,19 @@ fn answer_level(text: &[u8], at: usize) -> usize {
     let mut coefficients = vector_lines::no_grams();
     let only = vector_lines::lend_grams(text, level.next, &mut coefficients);
     let c = only.length;
-    show_level(n, j, &coefficients[..c]);
+    show_level(rt, n, j, &coefficients[..c]);
     only.next
 }
 
 // A call of sizes, whose n begins at `at`. Tells where the next call begins.
-fn answer_sizes(text: &[u8], at: usize) -> usize {
+fn answer_sizes(rt: &impl Print, text: &[u8], at: usize) -> usize {
     let hours = vector_lines::number_at(text, at);
-    show_sizes(hours.size as usize);
+    show_sizes(rt, hours.size as usize);
     hours.next
 }
 
 // A call of rebuilding, whose n begins at `at`. Tells where the next call begins.
-fn answer_rebuild(text: &[u8], at: usize) -> usize {
+fn answer_rebuild(rt: &impl Print, text: &[u8], at: usize) -> usize {
     let length = vector_lines::number_at(text, at);
     let begin = vector_lines::number_at(text, length.next);
     let n = length.size as usize;
@@ -119,18 +145,18 @@ fn answer_rebuild(text: &[u8], at: usize) -> usize {
     let mut hours = vector_lines::no_grams();
     let third = vector_lines::lend_grams(text, second.next, &mut hours);
     let h = third.length;
-    show_rebuild(n, &counts[..c], &flags[..f], start, &mut hours[..h]);
+    show_rebuild(rt, n, &counts[..c], &flags[..f], start, &mut hours[..h]);
     third.next
 }
 
 // Answers a call of this kind, whose numbers begin at `at`. A number that is no kind is passed over.
-pub fn answer(text: &[u8], kind: u64, at: usize) -> usize {
+pub fn answer(rt: &impl Print, text: &[u8], kind: u64, at: usize) -> usize {
     match kind {
-        1 => answer_make(text, at),
-        2 => answer_turn_back(text, at),
-        3 => answer_level(text, at),
-        4 => answer_sizes(text, at),
-        5 => answer_rebuild(text, at),
+        1 => answer_make(rt, text, at),
+        2 => answer_turn_back(rt, text, at),
+        3 => answer_level(rt, text, at),
+        4 => answer_sizes(rt, text, at),
+        5 => answer_rebuild(rt, text, at),
         _ => at,
     }
 }
