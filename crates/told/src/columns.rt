@@ -6,7 +6,7 @@ use words::{Answer, DayChange, Edges, Finished, Reading, Stopped, Summary, Times
 
 // The hours of a column: from `from` up to, not including, `upto`; 0 and 0 on a refusal.
 #[repr(C)]
-#[derive(Drop)]
+#[derive(Clone, Copy)]
 pub struct ToldColumn {
     pub number: usize,
     pub place: usize,
@@ -16,7 +16,7 @@ pub struct ToldColumn {
 
 // A column stopped at a depth: low and high of an absent range are both 2,000,003. All are 0 on a refusal.
 #[repr(C)]
-#[derive(Drop)]
+#[derive(Clone, Copy)]
 pub struct ToldRanges {
     pub number: usize,
     pub place: usize,
@@ -30,7 +30,7 @@ pub struct ToldRanges {
 // A finished column without its count. Where `found` is 0 there is no reading, and the other fields are answered as 0;
 // anything else in `found` is a reading, and is answered as 1.
 #[repr(C)]
-#[derive(Drop)]
+#[derive(Clone, Copy)]
 pub struct ToldAnswer {
     pub found: usize,
     pub first_hour: usize,
@@ -43,7 +43,7 @@ pub struct ToldAnswer {
 
 // A finished column: its answer, and its count. No reading and count 0 on a refusal.
 #[repr(C)]
-#[derive(Drop)]
+#[derive(Clone, Copy)]
 pub struct ToldFinished {
     pub number: usize,
     pub place: usize,
@@ -53,7 +53,7 @@ pub struct ToldFinished {
 
 // The change of a day: where `found` is 0 there is no reading, or the call is refused, and the grams are 0.
 #[repr(C)]
-#[derive(Drop)]
+#[derive(Clone, Copy)]
 pub struct ToldChange {
     pub number: usize,
     pub place: usize,

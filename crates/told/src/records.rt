@@ -6,7 +6,7 @@ use words::{Asking, Opening, Unpacking, Writing};
 
 // What writing a record answers: how many bytes it has, 0 on a refusal.
 #[repr(C)]
-#[derive(Drop)]
+#[derive(Clone, Copy)]
 pub struct ToldBytes {
     pub number: usize,
     pub place: usize,
@@ -15,7 +15,7 @@ pub struct ToldBytes {
 
 // What reading a record answers: the hours of its series, 0 on a refusal.
 #[repr(C)]
-#[derive(Drop)]
+#[derive(Clone, Copy)]
 pub struct ToldHours {
     pub number: usize,
     pub place: usize,
@@ -24,7 +24,7 @@ pub struct ToldHours {
 
 // What opening a record answers: the hours of its series and how many coefficients it has, 0 on a refusal.
 #[repr(C)]
-#[derive(Drop)]
+#[derive(Clone, Copy)]
 pub struct ToldRecord {
     pub number: usize,
     pub place: usize,
@@ -34,7 +34,7 @@ pub struct ToldRecord {
 
 // What asking a record answers: the coefficient, 0 on a refusal.
 #[repr(C)]
-#[derive(Drop)]
+#[derive(Clone, Copy)]
 pub struct ToldCoefficient {
     pub number: usize,
     pub place: usize,

@@ -6,7 +6,7 @@ use words::Taking;
 
 // A call's answer: the refusal's number, 0 where the call is taken, and its place.
 #[repr(C)]
-#[derive(Drop)]
+#[derive(Clone, Copy)]
 pub struct Told {
     pub number: usize,
     pub place: usize,
