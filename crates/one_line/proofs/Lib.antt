@@ -1,4 +1,5 @@
 -- Why reading one line meets its contracts.
+pub mod Scan
 pub mod Split
 pub mod Fields
 pub mod Numerals
