@@ -8,7 +8,7 @@ use stepping::{Reached, by_parts, nodes};
 use words::{Column, Range};
 
 // The nodes of an inner range: the least low and the greatest high of all, and the first and the last of them.
-#[derive(Drop)]
+#[derive(Clone, Copy)]
 pub enum Inner {
     Nothing,
     Nodes {
@@ -19,7 +19,7 @@ pub enum Inner {
 }
 
 // What a visit has seen: the outer range, the nodes of the inner one, and how many nodes are opened by now.
-#[derive(Drop)]
+#[derive(Clone, Copy)]
 pub struct Seen {
     pub outer: Range,
     pub inner: Inner,

@@ -11,7 +11,7 @@ use node::Halves;
 use words::{NodeId, Range, Timestamp};
 
 // A node as it is reached by going down: its number, its first hour, how many hours it covers, and its range.
-#[derive(Drop)]
+#[derive(Clone, Copy)]
 pub struct Reached {
     pub id: NodeId,
     pub from: Timestamp,

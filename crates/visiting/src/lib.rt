@@ -15,7 +15,7 @@ use stepping::{Reached, by_parts, nodes};
 use words::{Column, NodeId, Timestamp};
 
 // A visit is through, or this is the first unsound node that it opened.
-#[derive(Drop)]
+#[derive(Clone, Copy)]
 pub enum Visited {
     Unsound(NodeId),
     Through(Seen),
@@ -23,7 +23,7 @@ pub enum Visited {
 
 // Where a visit has come to that had one half to go on with at each node: to an unsound node, to one that is not
 // opened, or to two halves that both are to be visited.
-#[derive(Drop)]
+#[derive(Clone, Copy)]
 pub enum Narrowed {
     Unsound(NodeId),
     Ended {

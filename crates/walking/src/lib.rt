@@ -10,14 +10,14 @@ use stepping::{Reached, nodes};
 use words::{NodeId, Range, Reading};
 
 // Which reading of a node a walk goes to.
-#[derive(Drop)]
+#[derive(Clone, Copy)]
 pub enum Towards {
     First,
     Last,
 }
 
 // A walk has come to its reading, so many levels down, or this is the first unsound node on its way.
-#[derive(Drop)]
+#[derive(Clone, Copy)]
 pub enum Walked {
     Unsound(NodeId),
     Came { reading: Reading, levels: usize },
