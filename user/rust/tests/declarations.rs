@@ -111,10 +111,10 @@ fn sorted(mut declared: Vec<Declared>) -> Vec<Declared> {
 
 #[test]
 fn functions_are_those_of_the_boundary() {
-    let boundary = file("crates/sagivelume/src/lib.rt");
+    let boundary = file("crates/sagivelume_c/src/lib.rt");
     let exported: Vec<Declared> =
         all_between(&boundary, "extern \"C\" fn ", "\n    ensures").into_iter().map(function).collect();
-    assert_eq!(exported.len(), boundary.matches("#[no_mangle]").count());
+    assert_eq!(exported.len(), boundary.matches("#[unsafe(no_mangle)]").count());
 
     assert_eq!(c_functions(&file("user/include/sagivelume.h")), exported);
 

@@ -209,7 +209,7 @@ mod tests {
         let sources = Path::new(env!("CARGO_MANIFEST_DIR")).join("../../crates/vectors/src");
         let files = fs::read_dir(sources).expect("the program of the vectors").map(|file| file.expect("a file").path());
         let program: Vec<String> = files.map(|file| fs::read_to_string(file).expect("a source")).collect();
-        let boundary = include_str!("../../../../crates/sagivelume/src/lib.rt");
+        let boundary = include_str!("../../../../crates/sagivelume_c/src/lib.rt");
         let mut exported = 0;
         for after in boundary.split("extern \"C\" fn ").skip(1) {
             let (name, _) = after.split_once('(').expect("parameters");
