@@ -1,9 +1,9 @@
 -- When there is a level j of details, by the tests that the code makes, and where its stretch lies. Assumes nothing.
-use Rattle.kit.proofs.{◌≡◌, Bool, true, false, List, ⊎_elim, ℕ, suc, ◌+◌, ◌-◌, ◌*◌, ◌^◌, ◌≤◌, ◌<◌, two-pow-succ, arith}
-use Rattle.kit.proofs.{ℤ, length, take, drop, leb, pow_mono, pow_pos, lt-ltb, le-ltb, le-leb, lt-leb}
-use Rattle.words.specs.{largest_level, largest_hours}
+use Rattle.kit.proofs.{◌≡◌, Bool, true, false, List, ⊎_elim, ℕ, suc, ◌+◌, ◌*◌, ◌^◌, ◌≤◌, ◌<◌, two-pow-succ, arith}
+use Rattle.kit.proofs.{ℤ, length, leb, pow_mono, pow_pos, lt-ltb, le-ltb, le-leb, lt-leb}
+use Rattle.words.specs.{largest_level}
 use Rattle.words.specs.declared.Stretch.{Stretch}
-use Rattle.om3.specs.Document.{bad_hours, levels, P, has_level, level_stretch, places_of}
+use Rattle.om3.specs.Document.{bad_hours, levels, P, has_level, level_stretch}
 use Rattle.laws.proofs.{Tests.below_or_not, Levels.levels-most, Answers.stretch-within}
 
 abbrev none : Stretch
@@ -55,18 +55,7 @@ module _ (n j lent : ℕ) where
           (λ d. rw (by_level true (le-leb (j + 2) (levels n) d)))
           (below_or_not (levels n) (j + 2))
 
--- 2^j of a level that can be there is no large number.
-pub small_power : (w j : ℕ) → w ≡ 2 ^ j → j < largest_level → w ≤ largest_hours
-small_power w j e h =
-    let d : j ≤ largest_level = omega arith in
-    omega (arith, pow_mono d)
-
--- The part that the code takes is the stretch of the coefficients.
+-- The part that the code takes lies within the coefficients.
 module _ (n j : ℕ) (cs : List ℤ) (r : Stretch) (e : r ≡ level_stretch n j (length cs)) where
   pub part-fits : r.start + r.length ≤ length cs
   part-fits = rw e (stretch-within n j (length cs))
-
-  pub part-is : take (r.start + r.length - r.start) (drop r.start cs) ≡ places_of (level_stretch n j (length cs)) cs
-  part-is =
-      let m : r.start + r.length - r.start ≡ r.length = omega arith in
-      rw (m, e)
