@@ -43,14 +43,18 @@ fn again(rt: &HostRuntime, why: &Error) -> bool {
     }
 }
 
-// Prints these words and the reason as a line on standard error. Of the reason the system's words are printed, without
-// its number.
+// The system's words of a reason, without its number, which std puts after them.
+fn words_of(reason: &str) -> &str {
+    match reason.find(" (os error ") {
+        Some(end) => reason.get(..end).unwrap_or(reason),
+        None => reason,
+    }
+}
+
+// Prints these words and the system's reason as a line on standard error.
 fn fail(rt: &HostRuntime, cannot: &[u8], why: &Error) {
     let text = InlineText::<REASON>::of(why);
-    let reason = match text.as_str().split_once(" (os error ") {
-        Some((words, _)) => words,
-        None => text.as_str(),
-    };
+    let reason = words_of(text.as_str());
     let _ = rt.stderr().write_all(cannot);
     let _ = eprintln!(rt; ": {reason}");
 }

@@ -15,7 +15,7 @@ use told::columns::ToldAnswer;
 
 // A column of the input: the hours of the series, the window, its columns and the number of this one; and where the
 // number after it begins.
-#[derive(Drop)]
+#[derive(Clone, Copy)]
 struct Asked {
     n: usize,
     a: usize,
@@ -26,7 +26,7 @@ struct Asked {
 }
 
 // An answer of the input, and where the number after it begins.
-#[derive(Drop)]
+#[derive(Clone, Copy)]
 struct Given {
     answer: ToldAnswer,
     next: usize,
