@@ -1,3 +1,4 @@
+-- `write_piece` goes on where the last write ended. The measure is how many turns are left.
 use Rattle.std.proofs.Common.{◌≤◌, length}
 use Rattle.streams.proofs.write_piece.Given as goal
 

@@ -1,3 +1,4 @@
+-- `fill_bytes` fills number by number. The measure is how much room is left.
 use Rattle.std.proofs.Common.{length, ◌-◌}
 use Rattle.vector_lines.proofs.input.fill_bytes.Given as goal
 

@@ -1,3 +1,4 @@
+-- `fill_grams` fills number by number. The measure is how much room is left.
 use Rattle.std.proofs.Common.{length, ◌-◌}
 use Rattle.vector_lines.proofs.input.fill_grams.Given as goal
 

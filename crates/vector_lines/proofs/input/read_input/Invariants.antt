@@ -1,3 +1,4 @@
+-- `read_input` fills the room from its start. The measure is how much room is left.
 use Rattle.std.proofs.Common.{◌-◌, ◌≤◌, length}
 use Rattle.vector_lines.proofs.input.read_input.Given as goal
 

@@ -1,3 +1,4 @@
+-- `print_grams` goes on number by number. The measure is how many are left.
 use Rattle.std.proofs.Common.{length, ◌-◌}
 use Rattle.vector_lines.proofs.output.print_grams.Given as goal
 
