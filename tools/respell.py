@@ -1,11 +1,12 @@
 #!/usr/bin/env python3
-"""Gives this repository's own definitions and lemmas the spelling of today's Rattle: words in snake case, no middle dot.
+"""Gives this repository's own definitions and lemmas the spelling of today's Rattle: words in snake case, no middle
+dot.
 
 usage: python3 tools/respell.py     at the top, once, after /opt/rattle/port/port.py
 
-port.py respells the names of the kit, and some of ours. This turns the rest, in the crates, in their must-fail edits and
-in the pages and tests that name them. Functions of src/, exported names, strings, inputs and outputs are in snake case
-already, and stay.
+port.py respells the names of the kit, and some of ours. This turns the rest, in the crates, in their must-fail edits
+and in the pages and tests that name them. Functions of src/, exported names, strings, inputs and outputs are in snake
+case already, and stay.
 """
 
 import os
