@@ -59,6 +59,7 @@ fn bits_of(z: i32) -> usize
 }
 
 // The coefficient that 24 bits are. [record 5]
+#[tactic(auto, using(crate::proofs::Threes::signed_kept, crate::proofs::Threes::signed_turned))]
 fn signed_of(x: usize) -> i32
     requires { x < 2 ^ 24 }
     ensures { result ≡ signed_of x }
