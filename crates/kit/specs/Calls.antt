@@ -1,6 +1,6 @@
 -- A call that asks nothing and promises one fact, in the kit's own terms: of the clauses that it reads from the source
--- of the call, and of the routine that the call's name means where it has the call's code. Each crate says of its public calls that they are such
--- calls, and which fact each promises (proofs/Clauses). Assumes nothing.
+-- of the call, and of the routine that the call's name means where it has the call's code. Each crate says of its
+-- public calls that they are such calls, and which fact each promises (proofs/Clauses). Assumes nothing.
 --
 --   Promise T            a fact about a call's arguments, its answer, and its parameters as it leaves them; T is how
 --                        the kit reads the call's parameters and its answer
@@ -68,8 +68,8 @@ module _ (T : Ended) where
   abbrev pub Result : Type 0 → Type 0
   Result B = (κs : Lfts T.signature.lifetimes) → Res T.signature κs → AtExit T κs → B
 
-  -- In every model of the kit's logic the clauses are that contract, and wherever the call's name has its code, what the
-  -- name means meets it; and two results that the contract allows are the same.
+  -- In every model of the kit's logic the clauses are that contract, and wherever the call's name has its code, what
+  -- the name means meets it; and two results that the contract allows are the same.
   pub record Call (written : Written) (code : Code) (name : Callee) (promise : Promise) {B : Type 0} (result : Result B)
       : Type 2 where
     pub clauses : {M : Type 1} {𝓤 : Ura M} (𝓛 : Logic 𝓤) (mem : Memory → SProp 𝓤)

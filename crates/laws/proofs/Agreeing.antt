@@ -26,7 +26,8 @@ module _ (l : ℕ) (t u : Table) (same : Agree l t u) where
     code-agrees : suc v.level ≡ l → code_at l t (number v) ≡ code_at l u (number v)
     code-agrees h = same.codes ((number v).0 - 2 ^ l / 2) (code-room l v i h)
 
-    halves-agree : v.level < l → (r : Range) → (left_of l t v r ≡ left_of l u v r) × (right_of l t v r ≡ right_of l u v r)
+    halves-agree : v.level < l → (r : Range)
+        → (left_of l t v r ≡ left_of l u v r) × (right_of l t v r ≡ right_of l u v r)
     halves-agree b r =
         ⊎_elim (λ h. rw (pair-yes l v h, code-agrees h) (refl, refl))
         (λ h. rw (pair-no l v h, low-agrees h, high-agrees h) (refl, refl)) (eq-or-lt_of_le b)

@@ -8,9 +8,11 @@ use Rattle.signed.proofs.{signed, add_parts, sub_parts}
 use Rattle.words.specs.{day_hours, largest_reading, Readings, declared.Timestamp.Timestamp}
 use Rattle.words.specs.declared.{Range.TheVariants.Empty, Range.TheVariants.Held, Answer.Answer}
 use Rattle.words.specs.declared.{Answer.TheVariants.NoReading, Answer.TheVariants.Found}
-use Rattle.om3.specs.Document.{total, up_from, keep, Series, levels, is_gap, hour_of, hours_from, Table, HasTable, passes}
+use Rattle.om3.specs.Document.{total, up_from, keep, Series, levels, is_gap, hour_of, hours_from, Table, HasTable}
+use Rattle.om3.specs.Document.{passes}
 use Rattle.om3.specs.Document.{in_order, column_hours, examine_column, answer, finished_nodes, joined, day, before}
-use Rattle.om3.specs.Document.{change_of, examine_before, day_change, days_of, added_by, span_of, reading_of, look_through}
+use Rattle.om3.specs.Document.{change_of, examine_before, day_change, days_of, added_by, span_of, reading_of}
+use Rattle.om3.specs.Document.{look_through}
 use Rattle.laws.proofs.{Ranges.readings-at, Demand2.has-sound, Answers.day-hours, NeverRefused.finished-passes}
 use Rattle.laws.proofs.{NeverRefused.hour-or-passes, ColumnChecks.day-passes, Demand3.column-seen}
 use Rattle.laws.proofs.LookedThrough.{answer_one, hour_answer, look-through-none, look-through-more}

@@ -18,7 +18,8 @@ use Rattle.laws.proofs.TurnedBack.{turned-length, turned-at, coefficient-same, c
 low-holds : (r : Range) → Readings r → (is_reading (low_of r) || is_gap (low_of r)) ≡ true
 low-holds Empty p = refl
 low-holds (Held a b) p =
-    left-true (is_gap a) (is-between (neg_ℤ (pos largest_reading)) (pos largest_reading) a (omega signed) (omega signed))
+    left-true (is_gap a)
+    (is-between (neg_ℤ (pos largest_reading)) (pos largest_reading) a (omega signed) (omega signed))
 
 module _ (n : ℕ) where
   abbrev l : ℕ

@@ -3,7 +3,8 @@
 -- Assumes nothing.
 use Rattle.kit.proofs.{◌≡◌, List, [], ◌∷◌, ℕ, ◌+◌, ◌≤◌, arith, ℤ, le-ltb}
 use Rattle.words.specs.declared.{Finished.Finished, Stopped.Stopped, Column.Column}
-use Rattle.om3.specs.Document.{Series, levels, Table, HasTable, in_order, check_depth, column, column_hours, opened_nodes}
+use Rattle.om3.specs.Document.{Series, levels, Table, HasTable, in_order, check_depth, column, column_hours}
+use Rattle.om3.specs.Document.{opened_nodes}
 use Rattle.om3.specs.Document.{count_at, outer, inner, examine_column, stopped, answer, count, finished_nodes, finished}
 use Rattle.om3.specs.Document.{look_through, Drawn, Ranged}
 use Rattle.laws.proofs.{Demand2.has-sound, Demand2.has-ranges, Edges.edge-mono, Windows.column-before}

@@ -34,7 +34,8 @@ module _ (l : ℕ) (t : Table) (x : Column) (n : ℕ) (s : List ℤ)
       rw (ranges v i, ranges (left v) (left_in i b), ranges (right v) (right-in i b)) (range-halves l n s v b)
 
   -- One reading of the column.
-  module _ (d k : ℕ) (b : k < 2 ^ l) (own : in_column x (hour k) ≡ true) (reading : is_gap (hour_of n s (hour k)) ≡ false)
+  module _ (d k : ℕ) (b : k < 2 ^ l) (own : in_column x (hour k) ≡ true)
+      (reading : is_gap (hour_of n s (hour k)) ≡ false)
     where
       abbrev z : ℤ
       z = hour_of n s (hour k)

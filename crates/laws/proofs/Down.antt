@@ -1,5 +1,6 @@
 -- Going down from a node's range with its details gives the ranges of its halves, and only they do. Assumes nothing.
-use Rattle.kit.proofs.{◌≡◌, refl, Bool, true, false, cond, ℕ, ◌+◌, ◌-◌, ◌<◌, lit<, ℤ, pos, negsuc, ◌-ℤ◌, le_z, lt_z, ◌≤ℤ◌}
+use Rattle.kit.proofs.{◌≡◌, refl, Bool, true, false, cond, ℕ, ◌+◌, ◌-◌, ◌<◌, lit<, ℤ, pos, negsuc, ◌-ℤ◌, le_z, lt_z}
+use Rattle.kit.proofs.{◌≤ℤ◌}
 use Rattle.kit.proofs.{ne_eqb}
 use Rattle.signed.specs.{min_z, max_z, is_number}
 use Rattle.signed.proofs.{up, dn, add_parts, sub_parts, min-parts, max-parts, signed}
@@ -46,7 +47,8 @@ held_back a b c d p q =
     let a_back : left_low x (a -ℤ c) ≡ a = omega (signed, min-parts a c, sub_parts a c, left_low-parts x (a -ℤ c)) in
     let c-back : right_low x (a -ℤ c) ≡ c = omega (signed, min-parts a c, sub_parts a c, right_low-parts x (a -ℤ c)) in
     let b-back : left_high y (b -ℤ d) ≡ b = omega (signed, max-parts b d, sub_parts b d, left_high-parts y (b -ℤ d)) in
-    let d-back : right_high y (b -ℤ d) ≡ d = omega (signed, max-parts b d, sub_parts b d, right_high-parts y (b -ℤ d)) in
+    let d-back : right_high y (b -ℤ d) ≡ d =
+    omega (signed, max-parts b d, sub_parts b d, right_high-parts y (b -ℤ d)) in
     rw (no-mark left_mark (a -ℤ c) (lit< tt) small, no-mark right_mark (a -ℤ c) (lit< tt) small) (cc, cc)
 
 pub halves-back : (r s : Range) → Readings r → Readings s

@@ -5,7 +5,8 @@ use Rattle.kit.proofs.{◌≡◌, refl, sym, ap, ◌∙◌, List, [], ◌∷◌,
 use Rattle.words.specs.{low_of, high_of}
 use Rattle.words.specs.declared.{Answer.Answer, Answer.TheVariants.NoReading, Answer.TheVariants.Found, Column.Column}
 use Rattle.om3.specs.Document.{last_of, sum, Node, InTree, range_of, Table, reached, column_hours, count_at, range_over}
-use Rattle.om3.specs.Document.{levels_of, end_of, walk_end, towards_first, towards_last, first_walk, last_walk, reading_at}
+use Rattle.om3.specs.Document.{levels_of, end_of, walk_end, towards_first, towards_last, first_walk, last_walk}
+use Rattle.om3.specs.Document.{reading_at}
 use Rattle.om3.specs.Document.{inside_nodes, walks_from, answer_from, answer, count, look_through}
 use Rattle.laws.proofs.{Listed.All, Answers.joined-right, LookedThrough.range_of_answer}
 use Rattle.laws.proofs.{LookedThrough.range-joined, NodeAnswers.reached-answer, WalksEnd.walk_first}

@@ -57,7 +57,8 @@ code-sound x y = by (is_gap x) (is_gap y) (lt_z x y) refl
     by true true h e = refl
     by true false h e = true-eq_z y y refl
     by false true h e = true-eq_z x x refl
-    by false false true e = left-true {a = lt_z (min_z x y) (max_z x y)} _ (omega (signed, min-parts x y, max-parts x y))
+    by false false true e =
+        left-true {a = lt_z (min_z x y) (max_z x y)} _ (omega (signed, min-parts x y, max-parts x y))
     by false false false e = refl
 
 -- Hours from n on are gaps.

@@ -4,7 +4,8 @@ use Rattle.kit.proofs.{◌≡◌, refl, Bool, true, false, cond, List, [], ◌�
 use Rattle.kit.proofs.{le_refl, arith}
 use Rattle.words.specs.declared.Column.{Column}
 use Rattle.om3.specs.Document.{last_of, Node, InTree, Table, Check, passes, in_order, sound_table, examine}
-use Rattle.om3.specs.Document.{examine_nodes, no_hour, opened_nodes, examine_column, walk_nodes, nodes_of, towards_first}
+use Rattle.om3.specs.Document.{examine_nodes, no_hour, opened_nodes, examine_column, walk_nodes, nodes_of}
+use Rattle.om3.specs.Document.{towards_first}
 use Rattle.om3.specs.Document.{towards_last, first_walk, last_walk, walks_from, inside_nodes, finished_nodes}
 use Rattle.laws.proofs.{Listed.All, Listed.all_append, SoundTables.root-sound, SoundTables.node-sound}
 use Rattle.laws.proofs.WalksEnd.{Taken, first_taken, last_taken}

@@ -1,7 +1,8 @@
 -- What the bytes of a written record state: its fields and its table are read back as they were written. A field stands
 -- where the bytes before it end; the header has seven bytes and each coefficient three. Assumes nothing.
 use Rattle.kit.proofs.{◌≡◌, refl, sym, ap, ◌∙◌, false, List, [], ◌∷◌, ◌++◌, map, flat_map, ℕ, zero, suc, ◌+◌, ◌*◌, ◌/◌}
-use Rattle.kit.proofs.{◌^◌, ◌≤◌, ◌<◌, arith, ℤ, pos, length, get_or, take, drop, length-append, length-take-le, get_or-take}
+use Rattle.kit.proofs.{◌^◌, ◌≤◌, ◌<◌, arith, ℤ, pos, length, get_or, take, drop, length-append, length-take-le}
+use Rattle.kit.proofs.{get_or-take}
 use Rattle.kit.proofs.{drop_at, drop-drop, take_all}
 use Rattle.words.specs.{largest_hours, version}
 use Rattle.om3.specs.Document.{up_from, P, Table, table_short, Bytes, bytes_of, InThree, three_bytes, signed_from}
@@ -94,7 +95,8 @@ module _ (n : ℕ) (t : Table) where
           length-take-le (P n / 2) t.codes (codes-there n t room),
         )
 
-    record-threes : (p : ℕ) → p < P n → bytes_at r (header_size + 3 * p) 3 ≡ three_bytes (get_or t.coefficients p (pos 0))
+    record-threes : (p : ℕ) → p < P n
+        → bytes_at r (header_size + 3 * p) 3 ≡ three_bytes (get_or t.coefficients p (pos 0))
     record-threes p h =
         rw (← drop-drop (3 * p) header_size r, record-after)
         (threes-at (take (P n) t.coefficients) (take (P n / 2) t.codes) p (omega (arith, taken-length))

@@ -4,7 +4,8 @@ use Rattle.kit.proofs.{◌≡◌, refl, sym, ap, ap₂, ◌∙◌, List, ◌++�
 use Rattle.kit.proofs.{length, take, drop, length-drop, length-take-le, take-add, take_all, drop-drop}
 use Rattle.words.specs.{version}
 use Rattle.om3.specs.Document.{up_from, P, passes, in_order, Bytes, bytes_of, number_from, three_bytes, bytes_at}
-use Rattle.om3.specs.Document.{record_length, record_of, header_size, hours_in, coefficient_in, table_in, opening_checks}
+use Rattle.om3.specs.Document.{record_length, record_of, header_size, hours_in, coefficient_in, table_in}
+use Rattle.om3.specs.Document.{opening_checks}
 use Rattle.om3.specs.Document.{Openable}
 use Rattle.laws.proofs.{Lists.map-up-length, ThreeBytes.three-forth, RecordsOpened.opens-formed}
 use Rattle.laws.proofs.Bytes.{bytes_take, bytes_drop, bytes-forth}
@@ -82,7 +83,8 @@ module _ (r : List ℕ) (bytes : Bytes r) where
         (take_all (header_size + 3 * P n + P n / 2) r (omega (arith, w.sized)))
 
 -- Bytes that are taken are the record of the table that they state.
-pub record-forth : (r : List ℕ) → Bytes r → in_order (opening_checks r) ≡ passes → record_of (hours_in r) (table_in r) ≡ r
+pub record-forth : (r : List ℕ) → Bytes r → in_order (opening_checks r) ≡ passes
+    → record_of (hours_in r) (table_in r) ≡ r
 record-forth r bytes h = formed-again r bytes (opens-formed r h)
 
 -- So the hours and the table decide the record.

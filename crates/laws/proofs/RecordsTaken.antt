@@ -21,7 +21,8 @@ unpacking-parted r lent = in-order-append (opening_checks r) _
 
 -- With the fields and the room in order, the examination alone decides reading.
 reading-decided : (r : List ℕ) → in_order (opening_checks r) ≡ passes → (lent : Table)
-    → table_short (hours_in r) lent ≡ false → in_order (unpacking_checks r lent) ≡ examine_table (hours_in r) (table_in r)
+    → table_short (hours_in r) lent ≡ false
+    → in_order (unpacking_checks r lent) ≡ examine_table (hours_in r) (table_in r)
 reading-decided r opens lent room =
     unpacking-parted r lent
     ∙ (unfold in_order in rw (opens, room) (then-passes (examine_table (hours_in r) (table_in r))))
@@ -83,7 +84,8 @@ module _ (n : ℕ) (s : List ℤ) (series : Series n s) where
       record-back n T series.most made-room made_ok
       ∙ (λ i. record { coefficients = (made-has n s).coefficients i; codes = (made-has n s).codes i })
 
-  pub made-read : (lent : Table) → table_short n lent ≡ false → in_order (unpacking_checks (record_of n T) lent) ≡ passes
+  pub made-read : (lent : Table) → table_short n lent ≡ false
+      → in_order (unpacking_checks (record_of n T) lent) ≡ passes
   made-read lent room =
       let opens = record-opens n T series.some series.most made-room in
       reading-decided (record_of n T) opens lent (rw made-hours room)
@@ -91,7 +93,8 @@ module _ (n : ℕ) (s : List ℤ) (series : Series n s) where
 
 -- Read exactly if some series of the hours that it states has it.
 pub reading-exactly : (r : List ℕ) → Bytes r → (lent : Table) → table_short (hours_in r) lent ≡ false
-    → (in_order (unpacking_checks r lent) ≡ passes) ↔ ((s : List ℤ) × Series (hours_in r) s × HasRecord (hours_in r) s r)
+    → (in_order (unpacking_checks r lent) ≡ passes)
+    ↔ ((s : List ℤ) × Series (hours_in r) s × HasRecord (hours_in r) s r)
 reading-exactly r bytes lent room = (
   taken-series r bytes lent room,
   λ h. ap (λ (x : List ℕ). in_order (unpacking_checks x lent)) h.2 ∙ made-read (hours_in r) h.0 h.1 lent room,

@@ -3,7 +3,8 @@
 use Rattle.kit.proofs.{◌≡◌, refl, sym, true, false, ◌&&◌, ◌||◌, ⊎_elim, ℕ, lit<, ℤ, pos, neg_ℤ, le_z, ◌≤ℤ◌}
 use Rattle.signed.specs.{min_z, max_z, is_number}
 use Rattle.signed.proofs.{sub_parts, min-parts, max-parts, is_number-true, signed}
-use Rattle.words.specs.{largest_reading, largest_detail, left_mark, right_mark, gap_mark, gap, low_of, high_of, Readings}
+use Rattle.words.specs.{largest_reading, largest_detail, left_mark, right_mark, gap_mark, gap, low_of, high_of}
+use Rattle.words.specs.{Readings}
 use Rattle.words.specs.declared.{Range.Range, Range.TheVariants.Empty, Range.TheVariants.Held}
 use Rattle.om3.specs.Document.{is_reading, is_gap, both, low_detail, high_detail, left_low, right_low, left_high}
 use Rattle.om3.specs.Document.{right_high, left_half, right_half, root_range, sound_root_values, is_detail, ordered}
@@ -99,14 +100,16 @@ module _ (a b : ℤ) (p : Readings (Held a b)) where
           }
 
     -- Both are details, and each half has low ≤ high.
-    two-details : (is_detail d && is_detail e && ordered (left_half (Held a b) d e) && ordered (right_half (Held a b) d e))
+    two-details : (is_detail d && is_detail e && ordered (left_half (Held a b) d e)
+        && ordered (right_half (Held a b) d e))
         ≡ true → Details (Held a b) d e
     two-details m =
         let L = ordered (left_half (Held a b) d e) in
         let R = ordered (right_half (Held a b) d e) in
         let three = and_left (is_detail d && is_detail e && L) R m in
         let two = and_left (is_detail d && is_detail e) L three in
-        let u = (between (neg_ℤ (pos largest_detail)) (pos largest_detail) d (and_left (is_detail d) (is_detail e) two)).1 in
+        let u = (between (neg_ℤ (pos largest_detail)) (pos largest_detail) d
+        (and_left (is_detail d) (is_detail e) two)).1 in
         two-halves u (rw (left_is u) at (and_right (is_detail d && is_detail e) L three))
         (rw (right_is u) at (and_right (is_detail d && is_detail e && L) R m))
 

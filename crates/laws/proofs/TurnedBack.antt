@@ -5,7 +5,8 @@ use Rattle.signed.proofs.{clash}
 use Rattle.words.specs.{gap, low_of, high_of}
 use Rattle.words.specs.declared.{Range.Range, Range.TheVariants.Empty, Range.TheVariants.Held}
 use Rattle.om3.specs.Document.{hour, hour_of, Node, InTree, number, root, left, right, start, hour_range, is_empty}
-use Rattle.om3.specs.Document.{range_of, Table, pair_code, code_of_place, table_of, coefficient_at, low_detail_at, high_detail_at}
+use Rattle.om3.specs.Document.{range_of, Table, pair_code, code_of_place, table_of, coefficient_at, low_detail_at}
+use Rattle.om3.specs.Document.{high_detail_at}
 use Rattle.om3.specs.Document.{code_at, reached_at, reached, turned_back, sound_table}
 use Rattle.laws.proofs.{Tests.by-test, Lists.map-up-length, Lists.map-up-from-0, Levels.half_pow}
 use Rattle.laws.proofs.{Nodes.detail-places, Ranges.low-hour, Ranges.range-halves, SoundDetails.root-values}

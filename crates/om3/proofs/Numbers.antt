@@ -11,11 +11,12 @@ use Rattle.om3.specs.Document.{weights_after, held_at, check_flags, numbers, unm
 
 -- What is computed, for these lists and for those of Causes and LaterNumbers.
 unfoldable pub computing : Unit {0}
-unfolding up_from any every keep first_from levels hour_of width start hours level_of look range_of coefficient pair_code
-    reached_at in_order sound_node nodes_below examine check_readings edges shares inside opened visited count_at
-    range_over outer inner_nodes stopped walk_nodes walk_end last_of inside_nodes finished day_change level_stretch bytes_of
-    number_from signed_of record_of table_in opening asking_view asking split window_line hour_line without_end digits_of
-    decimal column_lines check_lines check_numbers printed weights_after held_at check_flags flat_map flatten
+unfolding up_from any every keep first_from levels hour_of width start hours level_of look range_of coefficient
+    pair_code reached_at in_order sound_node nodes_below examine check_readings edges shares inside opened visited
+    count_at range_over outer inner_nodes stopped walk_nodes walk_end last_of inside_nodes finished day_change
+    level_stretch bytes_of number_from signed_of record_of table_in opening asking_view asking split window_line
+    hour_line without_end digits_of decimal column_lines check_lines check_numbers printed weights_after held_at
+    check_flags flat_map flatten
 computing = tt
 
 -- The numbers marked [P], 1 to 10.

@@ -6,7 +6,8 @@
 --   bits_of z, signed_of m         z in 24 bits, two's complement; the number that 24 bits are
 --   three_bytes z, signed_from bs  z in three bytes, two's complement; the number that three bytes spell
 --   bytes_at bs p w               the w bytes from place p on
-use Rattle.std.specs.Prelude.{cond, List, [], ◌∷◌, ℕ, zero, suc, ◌+◌, ◌-◌, ◌*◌, ◌/◌, ◌%◌, ◌^◌, ◌<◌, ltb, ℤ, pos, negsuc, neg_ℤ, ◌-ℤ◌, ◌≤ℤ◌, length, get_or, take, drop}
+use Rattle.std.specs.Prelude.{cond, List, [], ◌∷◌, ℕ, zero, suc, ◌+◌, ◌-◌, ◌*◌, ◌/◌, ◌%◌, ◌^◌, ◌<◌, ltb, ℤ, pos, negsuc}
+use Rattle.std.specs.Prelude.{neg_ℤ, ◌-ℤ◌, ◌≤ℤ◌, length, get_or, take, drop}
 
 -- A byte is a number from 0 to 255.
 abbrev pub Bytes : List ℕ → Type 0

@@ -8,11 +8,13 @@ pub use Rattle.om3.specs.Nodes.{Node, InTree, number, root, left, right, is_pair
 unfoldable pub use Rattle.om3.specs.Nodes.{width, start, hours, level_of}
 pub use Rattle.om3.specs.Ranges.{is_empty, hour_range, both}
 unfoldable pub use Rattle.om3.specs.Ranges.{look, range_of}
-pub use Rattle.om3.specs.Table.{Table, lent, low_detail, high_detail, code, low_detail_of, high_detail_of, code_of_place}
+pub use Rattle.om3.specs.Table.{Table, lent, low_detail, high_detail, code, low_detail_of, high_detail_of}
+pub use Rattle.om3.specs.Table.{code_of_place}
 pub use Rattle.om3.specs.Table.{table_of, HasTable}
 unfoldable pub use Rattle.om3.specs.Table.{coefficient, pair_code}
 pub use Rattle.om3.specs.Down.{left_low, right_low, left_high, right_high, left_half, right_half, first_of_pair}
-pub use Rattle.om3.specs.Down.{second_of_pair, coefficient_at, low_detail_at, high_detail_at, code_at, root_range, left_of}
+pub use Rattle.om3.specs.Down.{second_of_pair, coefficient_at, low_detail_at, high_detail_at, code_at, root_range}
+pub use Rattle.om3.specs.Down.{left_of}
 pub use Rattle.om3.specs.Down.{right_of, reached}
 unfoldable pub use Rattle.om3.specs.Down.{reached_at, turned_back}
 pub use Rattle.om3.specs.Checks.{Check, passes, refuses, refuse_if, and_then, answer_by, FirstCause}

@@ -4,12 +4,14 @@
 --   left_high, right_high           highs of the halves of a node with a high and a high detail
 --   left_half, right_half           ranges of the halves of a node with a range and two details, marks included
 --   first_of_pair, second_of_pair     ranges of the two hours of a pair with a range and a code
---   coefficient_at t p             the coefficient at place p; code_at, low_detail_at, high_detail_at by a node's number
+--   coefficient_at t p             the coefficient at place p; code_at, low_detail_at, high_detail_at by a node's
+--                                  number
 --   root_range low high            the range that the root values give node 1
 --   left_of l t v r, right_of       from the range r of node v to those of its halves, in the table t
 --   reached l t v                 the range reached at node v; reached_at l t j k, at node k of level j
 --   turned_back l t n              what the n hours come out as
-use Rattle.std.specs.Prelude.{cond, List, map, ℕ, zero, suc, ◌+◌, ◌-◌, ◌*◌, ◌/◌, ◌%◌, ◌^◌, eqb, ℤ, pos, ◌+ℤ◌, ◌-ℤ◌, get_or}
+use Rattle.std.specs.Prelude.{cond, List, map, ℕ, zero, suc, ◌+◌, ◌-◌, ◌*◌, ◌/◌, ◌%◌, ◌^◌, eqb, ℤ, pos, ◌+ℤ◌, ◌-ℤ◌}
+use Rattle.std.specs.Prelude.{get_or}
 use Rattle.std.specs.Int.Signed.{le_z}
 use Rattle.signed.specs.Choice.{is_number}
 use Rattle.words.specs.Constants.{left_mark, right_mark}

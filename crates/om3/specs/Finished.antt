@@ -11,7 +11,8 @@
 --   walks_from vs, answer_from vs     the walks and the answer of a column of which vs are these nodes
 --   answer, count                   what a finished column says, and its count
 --   finished_nodes                   the nodes that it examines
---   finished_checks                  the checks of the call for a finished column; finished n t a b w k, what it answers
+--   finished_checks                  the checks of the call for a finished column; finished n t a b w k, what it
+--                                    answers
 use Rattle.std.specs.Prelude.{cond, ◌&&◌, ℕ, zero, suc, ◌+◌, ◌-◌}
 use mathlib.Core.List.{List, [], ◌∷◌, ◌++◌, map, flat_map}
 use Rattle.words.specs.Said.{low_of, high_of}
@@ -71,8 +72,8 @@ module _ (l : ℕ) (t : Table) where
   abbrev pub reading_at : Node → Reading
   reading_at v = record { hour = hour v.index; grams = low_of (reached l t v) }
 
-  -- From the earliest of a column's non-empty inside visited nodes, `inside_nodes` below, the walk to the first reading,
-  -- then from the latest the walk to the last; no node, no walk. [columns 15, 16]
+  -- From the earliest of a column's non-empty inside visited nodes, `inside_nodes` below, the walk to the first
+  -- reading, then from the latest the walk to the last; no node, no walk. [columns 15, 16]
   -- Deviation: document 004's Algorithm 1 goes into no node that lies inside a column; we walk into the earliest and
   -- the latest, since the column's first and last reading are there.
   abbrev pub walks_from : List Node → List Walk

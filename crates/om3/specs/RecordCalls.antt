@@ -8,7 +8,8 @@
 --   opening_checks r          the checks of opening; opening r, what it answers; Openable r, what it asks of the bytes
 --   unpacking_checks r t      the checks of reading, which unpacks r into the lent table t; unpacking, what it answers
 --   check_place, check_reach   13 and 8, of a place asked for
---   view_checks r places p    the checks of asking a view of the bytes r and of P = places for place p; asking_view, what
+--   view_checks r places p    the checks of asking a view of the bytes r and of P = places for place p; asking_view,
+--                             what
 --                            it answers
 --   asking_checks r p         the checks of asking a record for place p; asking, what it answers
 use Rattle.std.specs.Prelude.{◌≡◌, false, not, ◌||◌, List, [], ◌∷◌, ℕ, ◌+◌, ◌*◌, leb, ltb, eqb, length}

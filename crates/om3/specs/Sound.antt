@@ -12,7 +12,8 @@
 --   sound_table l n t        whether a table is sound
 --   examine_node i is_sound   the examination of node i; examine_root t, of node 0
 --   examine_nodes l n t vs   the examination of a list of nodes; examine, of node 0 and then of the list
-use Rattle.std.specs.Prelude.{Bool, true, cond, not, ◌&&◌, ◌||◌, List, [], ◌∷◌, ◌++◌, map, ℕ, zero, suc, ltb, eqb, ℤ, pos, neg_ℤ}
+use Rattle.std.specs.Prelude.{Bool, true, cond, not, ◌&&◌, ◌||◌, List, [], ◌∷◌, ◌++◌, map, ℕ, zero, suc, ltb, eqb, ℤ}
+use Rattle.std.specs.Prelude.{pos, neg_ℤ}
 use Rattle.std.specs.Int.Signed.{le_z, lt_z}
 use Rattle.signed.specs.{is_number, eq_z}
 use Rattle.words.specs.{largest_detail, left_mark, right_mark, gap_mark}
@@ -93,7 +94,8 @@ all_nodes l = nodes_below (suc l) root
 
 -- A table is sound if all its nodes are, node 0 too. [sound 5]
 unfoldable pub sound_table : ℕ → ℕ → Table → Bool
-sound_table l n t = sound_root_values (coefficient_at t 0) (coefficient_at t 1) && every (sound_node l n t) (table_nodes l)
+sound_table l n t = sound_root_values (coefficient_at t 0) (coefficient_at t 1)
+    && every (sound_node l n t) (table_nodes l)
 
 -- An examined node is unsound: its number is the place of refusal 4. [refusals 4] [sound 6]
 abbrev pub examine_node : NodeId → Bool → Check

@@ -11,7 +11,8 @@
 --   outer d, inner d             the two ranges at depth d; an absent one is empty
 --   inner_nodes d                 the nodes of the inner range, in the order of their hours
 --   examine_column n vs           the examination of a column's nodes vs, in a table of n hours
---   stopped_checks                the checks of the call for a column at a depth; stopped n t a b w k d, what it answers
+--   stopped_checks                the checks of the call for a column at a depth; stopped n t a b w k d, what it
+--                                 answers
 use Rattle.std.specs.Prelude.{Bool, cond, not, ◌&&◌, ◌||◌, List, [], ◌∷◌, ℕ, ◌+◌, ◌-◌, ◌*◌, ◌/◌, ltb, eqb, length}
 use Rattle.words.specs.declared.Range.{Range}
 use Rattle.words.specs.declared.Range.TheVariants.{Empty}

@@ -36,7 +36,8 @@ pub reads-back : (z : ℤ) → mag z < 2 ^ 31 → to_z w32 (of_z w32 z) ≡ z
 reads-back z h = to_z-of_z {w = w32} (record { sfits = h })
 
 -- A number that is handed to a function is read back from its bits: what the function tested of it holds of it.
-pub told : (test : ℤ → Bool) (z : ℤ) → SFits w32 z → {r b : Bool} → r ≡ test (to_z w32 (of_z w32 z)) → r ≡ b → test z ≡ b
+pub told : (test : ℤ → Bool) (z : ℤ) → SFits w32 z → {r b : Bool} → r ≡ test (to_z w32 (of_z w32 z)) → r ≡ b
+    → test z ≡ b
 told test z f e h = sym (ap test (to_z-of_z f)) ∙ sym e ∙ h
 
 -- A cast to an unsigned type: the number is not negative, and its magnitude fits.

@@ -4,7 +4,8 @@ use Rattle.kit.proofs.{◌≡◌, sym, ◌∙◌, Bool, true, false, ◌||◌, L
 use Rattle.kit.proofs.{lt-ltb, le-ltb, ltb-false}
 use Rattle.words.specs.{largest_hours}
 use Rattle.words.specs.declared.Refusal.TheVariants.{BadHours, ShortBuffer}
-use Rattle.om3.specs.Document.{bad_hours, P, Table, lent, Check, passes, refuses, in_order, check_hours, short, table_short}
+use Rattle.om3.specs.Document.{bad_hours, P, Table, lent, Check, passes, refuses, in_order, check_hours, short}
+use Rattle.om3.specs.Document.{table_short}
 use Rattle.om3.specs.Document.{check_room, examine_table}
 use Rattle.laws.proofs.{Tests.neither, Making.good-some, Levels.P-most}
 use Rattle.laws.proofs.Examined.{then-passes, order-parts, first_absent}

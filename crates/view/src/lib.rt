@@ -7,9 +7,9 @@ ghost use Rattle.view.specs.View.{view_places, view_of};
 
 use words::{Asking, Opening};
 
-// A record's bytes, and how many coefficients it has. An enum that holds a reference is not in the language, so `open`
-// cannot answer "refused, or a view": the view of bytes that opening refuses has 0 places, and each place asked for is
-// refused with 13. Whoever wants to know why asks `opening::open_record`.
+// A record's bytes, and how many coefficients it has. `open` does not answer "refused, or a view": the view of bytes that
+// opening refuses has 0 places, and each place asked for is refused with 13. Whoever wants to know why asks
+// `opening::open_record`.
 #[derive(Drop)]
 pub struct View<'a> {
     pub bytes: &'a [u8],
@@ -51,8 +51,7 @@ fn ask_once(bytes: &[u8], place: usize) -> Asking
     ask(open(bytes), place)
 }
 
-// Opens a record and asks its view. Refusals of opening, then 13. The view opens the bytes once more: one made here, of
-// the places that are known by then, would be one more function to prove by hand.
+// Opens a record and asks its view. Refusals of opening, then 13. The view opens the bytes once more.
 pub fn ask_record(bytes: &[u8], place: usize) -> Asking
     ensures { result ≡ asking bytes.now place }
 {

@@ -6,5 +6,6 @@ pub mod Bounds
 pub use Constants.{largest_level, largest_hours, largest_reading, largest_detail, left_mark, right_mark, gap_mark, gap}
 pub use Constants.{most_columns, day_hours, version, turn, half_turn}
 pub use Said.{number_of, place_of, low_of, high_of, refused, taken, values_of, said_of_finished, said_of_stopped}
-pub use Said.{said_of_taking, said_of_edges, said_of_day_change, said_of_writing, said_of_unpacking, said_of_opening, said_of_asking}
+pub use Said.{said_of_taking, said_of_edges, said_of_day_change, said_of_writing, said_of_unpacking, said_of_opening}
+pub use Said.{said_of_asking}
 pub use Bounds.{Readings}

@@ -1,6 +1,7 @@
 -- `step` takes a pair's step at a pair, and else goes down by the details, which stand at the numbers of the halves.
 -- Assumes nothing.
 use Rattle.kit.proofs.{sym, ◌∙◌, ltb-true, ltb-false}
+use Rattle.examining.proofs.Examining.{details-told}
 use Rattle.stepping.proofs.Stepping as laws
 use Rattle.stepping.proofs.step.Goals as goal
 
@@ -12,4 +13,4 @@ returns-then-pair c =
 pub returns : goal.returns
 returns c =
     λ w two told. laws.details-stepped _ _ _ _ _ w _ (ltb-false w 4 (sym told ∙ c.if-pair.false)) c.requires.readings _
-    c.half_ranges.ensures
+    (search details-told)
