@@ -15,7 +15,7 @@ use Rattle.std.specs.Prelude.{List, [], ◌∷◌}
 use seplogic.Ra.Ura.{Ura}
 use base.Logic.{SProp}
 use mir.Syntax.{Callee}
-use prog.{Memory.Memory, Wp.Heap, Model.Model, Routine.Routine, Wired.Code, Wired.Wired}
+use prog.{Memory.Memory, Model.Model, Routine.Routine, Wired.Code, Wired.Wired}
 use types.Logic.{Logic}
 use contract.{Lifetimes.Lfts, Monad.Fun, Monad.fact, Notation.connectives, Running.Running}
 use denote.{RattleType.RattleType, RattleType.Denots, Signature.types_at}

@@ -1,6 +1,6 @@
 -- What demand 3 says of the ranges and the counts of a column at its depths, by the laws of the depths. Assumes
 -- nothing.
-use Rattle.kit.proofs.{true, false, List, ◌≡◌, ℕ, ◌-◌, ◌*◌, ◌^◌, ◌≤◌, ◌<◌, le_refl, arith, ℤ}
+use Rattle.kit.proofs.{true, false, List, ◌≡◌, ℕ, ◌-◌, ◌*◌, ◌^◌, ◌≤◌, le_refl, arith, ℤ}
 use Rattle.words.specs.declared.{Timestamp.Timestamp, Column.Column}
 use Rattle.om3.specs.Document.{is_gap, Series, levels, hour_of, Table, HasTable, in_column, outer, count, Covers}
 use Rattle.om3.specs.Document.{Ranged}
