@@ -1,10 +1,12 @@
 -- Coefficients packed one after the other, three bytes each: the bytes of one of them, one more packed, one more
 -- unpacked. Assumes nothing.
-use Rattle.kit.proofs.{◌≡◌, refl, sym, ap, ◌∙◌, List, [], ◌∷◌, ◌++◌, map, flat_map, append-nil, append_assoc, map-append}
+use Rattle.kit.proofs.{◌≡◌, refl, sym, ap, ◌∙◌, List, [], ◌∷◌, ◌++◌, map, flat_map, append-nil, append_assoc}
+use Rattle.kit.proofs.{map-append}
 use Rattle.kit.proofs.{ℕ, suc, ◌+◌, ◌-◌, ◌*◌, ◌/◌, ◌^◌, ◌≤◌, ◌<◌, zero-add, arith, ℤ, pos, length, get_or, take, drop}
 use Rattle.kit.proofs.{set, mag, w32, to_z, of_z, take_all, take-suc, length-take-le}
 use Rattle.signed.proofs.{reads-back}
-use Rattle.om3.specs.Document.{up_from, filled, bytes_of, bytes_at, bits_of, three_bytes, number_from, signed_of, InThree}
+use Rattle.om3.specs.Document.{up_from, filled, bytes_of, bytes_at, bits_of, three_bytes, number_from, signed_of}
+use Rattle.om3.specs.Document.{InThree}
 use Rattle.laws.proofs.{Lists.up-append, Lists.map-up-length, ThreeBytes.three-size, ThreeBytes.threes-size}
 use Rattle.laws.proofs.{RecordsForth.part_length}
 use Rattle.laws.proofs.Filled.{filled-length, filled-part, filled-set, filled-all}

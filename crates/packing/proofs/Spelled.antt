@@ -27,7 +27,8 @@ module _ (bs : List ℕ) where
   unfolding number_from
   read_none = record { within = omega arith; spelled = refl; small = omega arith }
 
-  pub read_more : (k x b : ℕ) → Read bs k x → k < length bs → b ≡ get_or bs k 0 → b < 256 → Read bs (k + 1) (x * 256 + b)
+  pub read_more : (k x b : ℕ) → Read bs k x → k < length bs → b ≡ get_or bs k 0 → b < 256
+      → Read bs (k + 1) (x * 256 + b)
   read_more k x b r h e f =
       let n : k + 1 ≡ suc k = omega arith in
       record {

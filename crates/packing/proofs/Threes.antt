@@ -8,7 +8,8 @@ use Rattle.laws.proofs.ThreeBytes.{signed_low}
 
 pub bits_below : (z : ℤ) → InThree z → lt_z z (pos 0) ≡ true → nat_abs (z +ℤ pos (2 ^ 24)) ≡ bits_of z
 bits_below (pos m) h e = absurd (omega signed)
-bits_below (negsuc m) h e = omega (signed, add_parts (negsuc m) (pos (2 ^ 24)), nat_abs-parts (negsuc m +ℤ pos (2 ^ 24)))
+bits_below (negsuc m) h e =
+    omega (signed, add_parts (negsuc m) (pos (2 ^ 24)), nat_abs-parts (negsuc m +ℤ pos (2 ^ 24)))
 
 pub bits_above : (z : ℤ) → lt_z z (pos 0) ≡ false → nat_abs z ≡ bits_of z
 bits_above (pos m) e = refl
