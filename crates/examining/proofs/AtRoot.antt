@@ -1,12 +1,12 @@
 -- Node 0 and node 1: the range that the root values give, and the examination of a whole table from there.
 -- Assumes nothing.
-use Rattle.kit.proofs.{◌≡◌, sym, ◌∙◌, List, ℕ, ◌-◌, ◌*◌, ◌/◌, ◌^◌, ◌≤◌, ◌<◌, arith, ℤ, pos, length, get_or, mag, w32, to_z}
-use Rattle.kit.proofs.{of_z}
+use Rattle.kit.proofs.{◌≡◌, sym, ◌∙◌, List, ℕ, ◌-◌, ◌*◌, ◌/◌, ◌^◌, ◌≤◌, ◌<◌, arith, ℤ, pos, length, get_or, mag, w32}
+use Rattle.kit.proofs.{to_z, of_z}
 use Rattle.signed.proofs.{reads-back}
 use Rattle.words.specs.declared.Range.{Range}
 use Rattle.words.specs.{Readings}
-use Rattle.om3.specs.Document.{levels, P, root, Table, lent, root_range, reached_at, reached, in_order, sound_root_values}
-use Rattle.om3.specs.Document.{examine, examine_table}
+use Rattle.om3.specs.Document.{levels, P, root, Table, lent, root_range, reached_at, reached, in_order}
+use Rattle.om3.specs.Document.{sound_root_values, examine, examine_table}
 use Rattle.laws.proofs.{Levels.P-even, SoundDetails.root-values}
 use Rattle.node.proofs.Located.{root-located}
 use Rattle.node.specs.declared.Root.{Root}

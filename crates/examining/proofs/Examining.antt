@@ -4,8 +4,9 @@ use Rattle.kit.proofs.{◌≡◌, refl, sym, ap, ◌∙◌, Bool, true, false, �
 use Rattle.kit.proofs.{◌/◌, ◌^◌, ◌≤◌, ◌<◌, arith, ℤ, pos, get_or, mag}
 use Rattle.signed.proofs.{reads-back}
 use Rattle.words.specs.{declared.NodeId.NodeId, declared.Range.Range, Readings}
-use Rattle.om3.specs.Document.{hour, Node, number, left, right, start, Table, lent, left_half, right_half, first_of_pair}
-use Rattle.om3.specs.Document.{second_of_pair, reached, Check, and_then, in_order, sound_details, sound_code, gap_from}
+use Rattle.om3.specs.Document.{hour, Node, number, left, right, start, Table, lent, left_half, right_half}
+use Rattle.om3.specs.Document.{first_of_pair, second_of_pair, reached, Check, and_then, in_order, sound_details}
+use Rattle.om3.specs.Document.{sound_code, gap_from}
 use Rattle.om3.specs.Document.{sound_node, nodes_below, examine_node, examine_nodes}
 use Rattle.node.specs.{Located.Located, Steps.halves_of, Steps.pair_of}
 use Rattle.laws.proofs.Nodes.{pair-yes, pair-no, pair-half, start-hour}
@@ -175,7 +176,8 @@ module _ (n : ℕ) (cs : List ℤ) (ks : List ℕ) (i : NodeId) (f w : ℕ) (ran
         right-reached =
             rw (reached-right l T v, pair-no l v (above-pairs at wide), at.numbered, ← g) H.second
 
-        halves-then : and_then (check_of r) (below l v at g (right v)) ≡ examine_nodes l n T (nodes_below (l - v.level) v)
+        halves-then : and_then (check_of r) (below l v at g (right v))
+            ≡ examine_nodes l n T (nodes_below (l - v.level) v)
         halves-then =
             sym (node-then l v at g
             ∙ rw (H.is_sound, ← L.below l (left v) (left-located at two) left-reached))

@@ -3,8 +3,8 @@ use Rattle.kit.proofs.{◌≡◌, ◌∙◌, true, false, ◌||◌, List, ℕ, �
 use Rattle.kit.proofs.{lt-ltb, le-ltb}
 use Rattle.words.specs.{low_of, high_of, declared.Range.Range, declared.Refusal.Refusal, declared.Taking.Taking}
 use Rattle.words.specs.declared.Refusal.TheVariants.{BadHours, ShortBuffer}
-use Rattle.om3.specs.Document.{bad_hours, levels, P, root, Table, lent, refuses, in_order, answer_by, short, table_short}
-use Rattle.om3.specs.Document.{check_readings, making_checks}
+use Rattle.om3.specs.Document.{bad_hours, levels, P, root, Table, lent, refuses, in_order, answer_by, short}
+use Rattle.om3.specs.Document.{table_short, check_readings, making_checks}
 use Rattle.sizes.specs.Lent.{TableLent}
 use Rattle.signed.proofs.{reads-back}
 use Rattle.laws.proofs.Levels.{levels-some, 2≤P, P-even}

@@ -30,8 +30,8 @@ module _ (n : ℕ) (cs : List ℤ) (ks : List ℕ) (out : List ℤ) where
     examined : checks ≡ examine_table n (lent cs ks)
     examined = checked.decided n cs ks (length out) n h
 
-    pub unsound-refused : (r : Verdict) → check_of r ≡ examine_table n (lent cs ks) → (i : NodeId) → r ≡ Verdict.Unsound i
-        → TurnedBack n cs ks out out (Taking.Refused (refusal.Unsound i))
+    pub unsound-refused : (r : Verdict) → check_of r ≡ examine_table n (lent cs ks) → (i : NodeId)
+        → r ≡ Verdict.Unsound i → TurnedBack n cs ks out out (Taking.Refused (refusal.Unsound i))
     unsound-refused r e i g = refused (examined ∙ sym (rw g at e))
 
     module _ (r : Verdict) (e : check_of r ≡ examine_table n (lent cs ks)) (g : r ≡ Verdict.Sound) where

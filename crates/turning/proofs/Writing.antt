@@ -3,8 +3,8 @@ use Rattle.kit.proofs.{◌≡◌, sym, ap, ◌∙◌, true, List, ℕ, suc, ◌+
 use Rattle.signed.proofs.{clash}
 use Rattle.words.specs.{low_of}
 use Rattle.words.specs.declared.Range.{Range}
-use Rattle.om3.specs.Document.{every, Node, left, right, Table, lent, left_half, right_half, first_of_pair, second_of_pair}
-use Rattle.om3.specs.Document.{reached, sound_details, sound_code, sound_node, nodes_below}
+use Rattle.om3.specs.Document.{every, Node, left, right, Table, lent, left_half, right_half, first_of_pair}
+use Rattle.om3.specs.Document.{second_of_pair, reached, sound_details, sound_code, sound_node, nodes_below}
 use Rattle.node.specs.{Located.Located, Steps.halves_of, Steps.pair_of}
 use Rattle.laws.proofs.{Tests.and_left, Tests.and_right, Nodes.pair-yes, Nodes.pair-no, Reached.reached-left}
 use Rattle.laws.proofs.{Reached.reached-right, NodeLists.every_append}
@@ -76,7 +76,9 @@ module _ (cs : List ℤ) (ks : List ℕ) (i f w : ℕ) (range : Range) (out : Li
     pub node-not-written : {x : Halves} → x ≡ Halves.Unsound → x ≡ halves_of range d e
         → Written cs ks i f w range out out
     node-not-written is s =
-        record { below = λ l n v at g ok. clash (sym (not-stepped _ _ _ (sym s ∙ is)) ∙ (all_sound l n v at g ok).node) }
+        record {
+          below = λ l n v at g ok. clash (sym (not-stepped _ _ _ (sym s ∙ is)) ∙ (all_sound l n v at g ok).node);
+        }
 
     module _ {x : Halves} (a b : Range) (is : x ≡ Halves.Sound a b) (s : x ≡ halves_of range d e) (out₁ out₂ : List ℤ)
         (L : Written cs ks (2 * i) f (w / 2) a out out₁)

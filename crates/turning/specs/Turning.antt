@@ -37,4 +37,5 @@ pub record PairWritten (ks : List ℕ) (f : ℕ) (range : Range) (out out' : Lis
 pub record TurnedBack (n : ℕ) (cs : List ℤ) (ks : List ℕ) (out out' : List ℤ) (r : Taking) : Type 0 where
   pub answer : r ≡ turning_back n (lent cs ks) (length out)
   pub hours : out'
-      ≡ written_by (in_order (turning_back_checks n (lent cs ks) (length out))) (turned_back (levels n) (lent cs ks) n) out
+      ≡ written_by (in_order (turning_back_checks n (lent cs ks) (length out)))
+      (turned_back (levels n) (lent cs ks) n) out

@@ -1,6 +1,7 @@
 -- The node itself, then both its halves, the left one first, with the ranges reached there. Assumes nothing.
 use Rattle.node.proofs.Rooms.{half-falls, half-of-four, left-room, right-room, left-hours, right-hours}
-use Rattle.examining.proofs.Examining.{details-told, details-unsound, left-told, right-told, left-unsound, then-right, pairs-examined}
+use Rattle.examining.proofs.Examining.{details-told, details-unsound, left-told, right-told, left-unsound, then-right}
+use Rattle.examining.proofs.Examining.{pairs-examined}
 use Rattle.examining.proofs.+examine_below.Goals as goal
 use Rattle.kit.proofs.{◌/◌}
 

@@ -13,7 +13,8 @@ pub returns-then-bad_hours : goal.returns-then-bad_hours
 returns-then-bad_hours c =
     let a = c.args in
     laws.refused _ _ _ _
-    (checked.bad-hours a.n a.coefficients.now a.codes.now (length a.hours.now) a.n c.bad_hours.ensures c.if-bad_hours.true)
+    (checked.bad-hours a.n a.coefficients.now a.codes.now (length a.hours.now) a.n c.bad_hours.ensures
+    c.if-bad_hours.true)
 
 pub returns-then-table_short : goal.returns-then-table_short
 returns-then-table_short c =
@@ -66,7 +67,8 @@ returns-in-Sound c =
     c.if-bad_hours.false c.places-p.ensures c.table_short.ensures c.if-table_short.false c.if-hours-n.false in
     let cs = a.coefficients.now in
     let told : root_of (get_or cs 0 (pos 0)) (get_or cs 1 (pos 0)) ≡ Root.Sound c.in-Sound.range = search root-read in
-    laws.hours-written _ _ _ _ fits _ c.examine.ensures c.in_default.is _ told _ c.places-p.ensures _ c.write_below.ensures
+    laws.hours-written _ _ _ _ fits _ c.examine.ensures c.in_default.is _ told _ c.places-p.ensures _
+    c.write_below.ensures
 
 pub returns-in_default-root_range : goal.returns-in_default-root_range
 returns-in_default-root_range c =
