@@ -1,10 +1,10 @@
 -- The parts of a record are put one after the other, each right after what is there. Assumes nothing.
-use Rattle.kit.proofs.{◌≡◌, ◌∙◌, List, ◌++◌, flat_map, ℕ, ◌+◌, ◌-◌, ◌*◌, ◌/◌, ◌≤◌, arith, ℤ, length, take, drop, set}
+use Rattle.kit.proofs.{◌≡◌, refl, ◌∙◌, List, ◌++◌, flat_map, ℕ, ◌+◌, ◌-◌, ◌*◌, ◌/◌, ◌≤◌, arith, ℤ, length, take, drop, set}
 use Rattle.kit.proofs.{length-append, length-drop, length-take-le, take_all}
 use Rattle.words.specs.{version}
 use Rattle.om3.specs.Document.{P, lent, filled, bytes_of, three_bytes, length_for, record_length, header_of, header_size}
 use Rattle.om3.specs.Document.{record_of}
-use Rattle.laws.proofs.Filled.{filled-length, filled-part, filled-set, filled-tail}
+use Rattle.laws.proofs.Filled.{filled-length, filled-part, filled-set}
 use Rattle.laws.proofs.{Bytes.bytes-length, ThreeBytes.threes-size, Records.header-size}
 use Rattle.writing.specs.Writing.{Ready}
 
@@ -77,9 +77,8 @@ module _ (n : ℕ) (cs : List ℤ) (ks old : List ℕ) (ready : Ready n cs ks (l
     stated-right : size - 4 ≡ record_length n
     stated-right = omega (arith, e, ready.coefficients)
 
-    pub record-put : (q : List ℕ)
-        → q ≡ take (length ks) ks ++ drop (length ks) (take (length packed - at) (drop at packed))
-        → take at packed ++ (q ++ drop (length packed - at) (drop at packed)) ≡ filled (record_of n (lent cs ks)) old
+    pub record-put : (q : List ℕ) → q ≡ ks
+        → take at packed ++ (q ++ drop (at + length ks - at) (drop at packed)) ≡ filled (record_of n (lent cs ks)) old
     unfolding record_of
     record-put q g =
         let k : length (header ++ flat_map three_bytes cs) ≡ at =
@@ -89,8 +88,8 @@ module _ (n : ℕ) (cs : List ℤ) (ks old : List ℕ) (ready : Ready n cs ks (l
           header-size (size - 4) n,
           threes-size cs,
         ) in
-        let fits : at + length ks ≤ length old = omega (arith, enough) in
         let all = take_all (P n) cs (omega (arith, ready.coefficients)) in
         let codes = take_all (P n / 2) ks (omega (arith, ready.codes)) in
         rw (g, coefficients-put)
-        (filled-tail (header ++ flat_map three_bytes cs) old ks at k ∙ rw (stated-right, all, codes))
+        (filled-part (header ++ flat_map three_bytes cs) old ks at (at + length ks) k refl
+        ∙ rw (stated-right, all, codes))

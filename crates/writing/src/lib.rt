@@ -33,7 +33,8 @@ fn put_record(n: usize, coefficients: &[i32], codes: &[u8], bytes: &mut [u8])
     put_header(size - words::LENGTH_SIZE, n, bytes);
     let at = words::HEADER_SIZE + words::COEFFICIENT_SIZE * places;
     packing::pack(coefficients, &mut bytes[words::HEADER_SIZE..at]);
-    bytes::copy(codes, &mut bytes[at..]);
+    let end = at + codes.len();
+    bytes[at..end].copy_from_slice(codes);
 }
 
 // Writes the record of a table of n hours. Refusals in the order 1, 3, 4; on a refusal nothing is written.
