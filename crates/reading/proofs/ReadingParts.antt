@@ -1,7 +1,7 @@
 -- Each answer of reading the parts of an opened record: checks 3 and 4 in their order, and a sound table, unpacked into
 -- the first places of the buffers. Assumes nothing.
 use Rattle.kit.proofs.{◌≡◌, sym, ◌∙◌, Bool, true, false, ◌||◌, List, ◌++◌, ℕ, ◌/◌, ◌≤◌, arith, ℤ, length, take, drop}
-use Rattle.kit.proofs.{take-length, length-take-le}
+use Rattle.kit.proofs.{length-take-le}
 use Rattle.words.specs.declared.{NodeId.NodeId, Refusal.Refusal, Unpacking.Unpacking}
 use Rattle.words.specs.declared.Refusal.TheVariants as refusal
 use Rattle.om3.specs.Document.{lent, Check, refuses, in_order, short, table_short, examine_table}
@@ -52,14 +52,13 @@ module _ (n p : ℕ) (bs ks : List ℕ) (cs : List ℤ) (ds : List ℕ) (t : Pac
           → PartsRead n bs ks cs ds cs ds (Unpacking.Refused (refusal.Unsound i))
       unsound-refused i g = refused (refusal.Unsound i) (examined ∙ sym (rw g at e))
 
-      pub table-read : r ≡ Verdict.Sound → (cs' : List ℤ) → cs' ≡ unpacked bs → (ds' : List ℕ)
-          → ds' ≡ take (length ks) ks ++ drop (length ks) ds
-          → PartsRead n bs ks cs ds (cs' ++ drop p cs) ds' (Unpacking.Hours n)
+      pub table-read : r ≡ Verdict.Sound → (cs' : List ℤ) → cs' ≡ unpacked bs → (ds' : List ℕ) → ds' ≡ ks
+          → PartsRead n bs ks cs ds (cs' ++ drop p cs) (ds' ++ drop (length ks) ds) (Unpacking.Hours n)
       table-read g cs' c ds' d =
           let taken = examined ∙ sym (rw g at e) in
           let thirds : length bs / 3 ≡ p = omega (arith, t.coefficients) in
           record {
             answer = rw taken;
             coefficients = rw (taken, c, unpacked-length bs, thirds);
-            codes = rw (taken, d, take-length ks);
+            codes = rw (taken, d);
           }

@@ -29,7 +29,7 @@ fn read_parts(
         return Unpacking::Refused(Refusal::Unsound(i));
     }
     packing::unpack(packed, &mut coefficients[..places]);
-    bytes::copy(codes_in, codes);
+    codes[..codes_in.len()].copy_from_slice(codes_in);
     Unpacking::Hours(n)
 }
 
