@@ -45,7 +45,8 @@ RecordBytesPromises κs n r e = r ≡ bytes_needed n
 abbrev pub RecordBytesCall : Type 2
 RecordBytesCall =
     Call boundary.sagivelume_record_bytes.ended (λ M 𝓤 𝓛. boundary.sagivelume_record_bytes.clauses 𝓛)
-    boundary_code.sagivelume_record_bytes.Symbol.code boundary.sagivelume_record_bytes.Key.name RecordBytesPromises (λ κs r e. r)
+    boundary_code.sagivelume_record_bytes.Symbol.code boundary.sagivelume_record_bytes.Key.name RecordBytesPromises
+    (λ κs r e. r)
 
 pub record-bytes-call : RecordBytesCall
 record-bytes-call =
@@ -84,7 +85,8 @@ TurnBackPromises κs n coefficients codes hours r e =
 abbrev pub TurnBackCall : Type 2
 TurnBackCall =
     Call boundary.sagivelume_turn_back.ended (λ M 𝓤 𝓛. boundary.sagivelume_turn_back.clauses 𝓛)
-    boundary_code.sagivelume_turn_back.Symbol.code boundary.sagivelume_turn_back.Key.name TurnBackPromises {B = Told × List ℤ} (λ κs r e. (r, (fourth e).now))
+    boundary_code.sagivelume_turn_back.Symbol.code boundary.sagivelume_turn_back.Key.name TurnBackPromises
+    {B = Told × List ℤ} (λ κs r e. (r, (fourth e).now))
 
 pub turn-back-call : TurnBackCall
 turn-back-call =
@@ -104,7 +106,8 @@ RebuildPromises κs n counts flags start hours r e =
 abbrev pub RebuildCall : Type 2
 RebuildCall =
     Call boundary.sagivelume_rebuild.ended (λ M 𝓤 𝓛. boundary.sagivelume_rebuild.clauses 𝓛)
-    boundary_code.sagivelume_rebuild.Symbol.code boundary.sagivelume_rebuild.Key.name RebuildPromises {B = Told × List ℤ} (λ κs r e. (r, (fifth e).now))
+    boundary_code.sagivelume_rebuild.Symbol.code boundary.sagivelume_rebuild.Key.name RebuildPromises
+    {B = Told × List ℤ} (λ κs r e. (r, (fifth e).now))
 
 pub rebuild-call : RebuildCall
 rebuild-call =
@@ -182,7 +185,8 @@ OpenRecordPromises κs bytes r e = r ≡ opening_told (opening bytes.now)
 abbrev pub OpenRecordCall : Type 2
 OpenRecordCall =
     Call boundary.sagivelume_open_record.ended (λ M 𝓤 𝓛. boundary.sagivelume_open_record.clauses 𝓛)
-    boundary_code.sagivelume_open_record.Symbol.code boundary.sagivelume_open_record.Key.name OpenRecordPromises (λ κs r e. r)
+    boundary_code.sagivelume_open_record.Symbol.code boundary.sagivelume_open_record.Key.name OpenRecordPromises
+    (λ κs r e. r)
 
 pub open-record-call : OpenRecordCall
 open-record-call =
@@ -281,7 +285,8 @@ DayChangePromises κs n coefficients codes day r e =
 abbrev pub DayChangeCall : Type 2
 DayChangeCall =
     Call boundary.sagivelume_day_change.ended (λ M 𝓤 𝓛. boundary.sagivelume_day_change.clauses 𝓛)
-    boundary_code.sagivelume_day_change.Symbol.code boundary.sagivelume_day_change.Key.name DayChangePromises (λ κs r e. r)
+    boundary_code.sagivelume_day_change.Symbol.code boundary.sagivelume_day_change.Key.name DayChangePromises
+    (λ κs r e. r)
 
 pub day-change-call : DayChangeCall
 day-change-call =

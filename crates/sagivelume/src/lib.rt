@@ -1,5 +1,5 @@
-// The boundary: the calls as C and Rust link them. Numbers pass as themselves, a slice as a pointer and then a length,
-// and an answer as a struct by value.
+// The boundary: the calls as C and Rust link them, from sagivelume_c, which has each under its name and hands on to it.
+// Numbers pass as themselves, a slice as a pointer and then a length, and an answer as a struct by value.
 #![tactic(auto)]
 
 ghost use Rattle.std.specs.Prelude.{◌≡◌, length};

@@ -1,7 +1,8 @@
 -- Each struct says what document 01 says of the answer that it tells: each case by computing it. Assumes nothing.
 use Rattle.kit.proofs.{◌≡◌, refl, List, ℤ}
-use Rattle.words.specs.{number_of, place_of, refused, said_of_taking, said_of_writing, said_of_unpacking, said_of_opening}
-use Rattle.words.specs.{said_of_asking, said_of_edges, said_of_stopped, said_of_finished, said_of_day_change, values_of}
+use Rattle.words.specs.{number_of, place_of, refused, said_of_taking, said_of_writing, said_of_unpacking}
+use Rattle.words.specs.{said_of_opening, said_of_asking, said_of_edges, said_of_stopped, said_of_finished}
+use Rattle.words.specs.{said_of_day_change, values_of}
 use Rattle.words.specs.declared.{Refusal.Refusal, Taking.Taking, Writing.Writing, Unpacking.Unpacking, Opening.Opening}
 use Rattle.words.specs.declared.{Asking.Asking, Edges.Edges, Stopped.Stopped, Answer.Answer, Finished.Finished}
 use Rattle.words.specs.declared.{DayChange.DayChange}

@@ -9,7 +9,8 @@
 --   change_told c     whether the day has a reading, and the change in grams
 --   answer_in t       the answer that a caller hands in
 use Rattle.std.specs.Prelude.{cond, eqb, pos}
-use Rattle.words.specs.Said.{Said, said_of_edges, said_of_stopped, said_of_finished, said_of_day_change, low_of, high_of}
+use Rattle.words.specs.Said.{Said, said_of_edges, said_of_stopped, said_of_finished, said_of_day_change, low_of}
+use Rattle.words.specs.Said.{high_of}
 use Rattle.words.specs.declared.Answer.{Answer}
 use Rattle.words.specs.declared.DayChange.{DayChange}
 use Rattle.words.specs.declared.Edges.{Edges}

@@ -42,7 +42,8 @@ abbrev pub writing_told : Writing → ToldBytes
 writing_told w = record { number = (said_of_writing w).number; place = (said_of_writing w).place; bytes = bytes_told w }
 
 abbrev pub unpacking_told : Unpacking → ToldHours
-unpacking_told u = record { number = (said_of_unpacking u).number; place = (said_of_unpacking u).place; hours = hours_told u }
+unpacking_told u =
+    record { number = (said_of_unpacking u).number; place = (said_of_unpacking u).place; hours = hours_told u }
 
 abbrev pub opening_told : Opening → ToldRecord
 opening_told o = record {

@@ -7,8 +7,8 @@
 --   EachSays                 each says what document 01 says of its answer
 use mathlib.Core.{Path.◌≡◌, Bool.cond}
 use Rattle.std.specs.Prelude.{List, [], ◌∷◌, ◌++◌, ℕ, eqb, ℤ, pos}
-use Rattle.words.specs.{said_of_taking, said_of_writing, said_of_unpacking, said_of_opening, said_of_asking, said_of_edges}
-use Rattle.words.specs.{said_of_stopped, said_of_finished, said_of_day_change, values_of}
+use Rattle.words.specs.{said_of_taking, said_of_writing, said_of_unpacking, said_of_opening, said_of_asking}
+use Rattle.words.specs.{said_of_edges, said_of_stopped, said_of_finished, said_of_day_change, values_of}
 use Rattle.words.specs.Said.{Said}
 use Rattle.words.specs.declared.{Taking.Taking, Writing.Writing, Unpacking.Unpacking, Opening.Opening, Asking.Asking}
 use Rattle.words.specs.declared.{Edges.Edges, Stopped.Stopped, Answer.Answer, Finished.Finished, DayChange.DayChange}
