@@ -1,6 +1,6 @@
 -- The narrowing of a visit: a record of what holds wherever it has come to, and how it goes on from there. A visit from
 -- where it has come to is a visit from its start. Assumes nothing.
-use Rattle.kit.proofs.{◌≡◌, refl, sym, ◌∙◌, Bool, true, false, not, List, ℕ, ◌+◌, ◌*◌, ◌^◌, ◌≤◌, ◌<◌, arith, w64, Fits}
+use Rattle.kit.proofs.{◌≡◌, refl, sym, ◌∙◌, Bool, true, false, not, List, ℕ, ◌+◌, ◌^◌, ◌≤◌, ◌<◌, arith}
 use Rattle.kit.proofs.{ℤ, ltb-true}
 use Rattle.words.specs.{largest_hours, Readings, declared.Column.Column, declared.Range.Range}
 use Rattle.laws.proofs.Tests.{and_right}
@@ -8,7 +8,7 @@ use Rattle.node.specs.declared.Halves.{Halves}
 use Rattle.stepping.specs.Nodes.{Below, is_pair_of, left_reached, right_reached, touches_of, inside_of, opened_of}
 use Rattle.stepping.specs.Stepping.{Steps, SteppedDown, SteppedFrom}
 use Rattle.stepping.specs.declared.Reached.{Reached}
-use Rattle.stepping.proofs.Lending.{steps, some-hours, small-number, ends-within, left_below, right-below}
+use Rattle.stepping.proofs.Lending.{steps, ends-within, left_below, right-below}
 use Rattle.visiting.specs.Visiting.{VisitedFrom}
 use Rattle.visiting.specs.Narrowing.{EndsAt, SplitsAt}
 use Rattle.visiting.specs.declared.Visited.{Visited}
@@ -50,12 +50,6 @@ module _ {n : ℕ} {cs : List ℤ} {ks : List ℕ} {x : Column} {stop c : ℕ} {
 
   abbrev p : Readings h.r × Readings h.q
   p = h.down.readings h.r h.q refl
-
-  pub left-falls : first.hours < at.hours
-  left-falls = rw h.left_is (omega (arith, h.two))
-
-  pub right-falls : second.hours < at.hours
-  right-falls = rw h.right_is (omega (arith, h.two))
 
   pub goes_left : {touch : Bool} → touch ≡ touches_of x second → touch ≡ false
       → CameTo n cs ks x stop c begun first (opened + 1)
@@ -106,15 +100,6 @@ module _ (n : ℕ) (cs : List ℤ) (ks : List ℕ) (x : Column) (stop c : ℕ) {
   pub ends-early : at.from.0 + at.hours < 2 ^ 64
   ends-early = omega (arith, ends-within came.below)
 
-  pub number_small : 2 * at.id.0 < 2 ^ 63
-  number_small = omega (arith, small-number came.below)
-
-  pub counts : Fits w64 (opened + 1)
-  counts = omega (arith, came.room, some-hours came.below)
-
-  pub left-early : {r : Range} {u : Reached} → u ≡ left_reached at r → u.from.0 + u.hours < 2 ^ 64
-  left-early e = rw e (omega (arith, ends-early))
-
   pub right-early : {q : Range} {u : Reached} → u ≡ right_reached at q → u.from.0 + u.hours < 2 ^ 64
   right-early e = rw e (omega (arith, ends-early))
 
@@ -156,5 +141,3 @@ module _ (n : ℕ) (cs : List ℤ) (ks : List ℕ) (x : Column) (stop c : ℕ) {
                 left_is = left_is;
                 right_is = right_is;
               }
-
-pub ruleset narrows = (ends-early, number_small, counts, left-early, right-early, steps-there)
