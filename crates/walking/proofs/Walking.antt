@@ -1,7 +1,7 @@
 -- What the walk from a node promises, for each way it can go on: the node is a single hour, it is unsound, or it is
 -- sound and the walk goes on with the half that it takes. Assumes nothing.
-use Rattle.kit.proofs.{◌≡◌, refl, sym, ap, ◌∙◌, Bool, true, false, List, ◌∷◌, ⊎_elim, ℕ, suc, ◌+◌, ◌-◌, ◌*◌, ◌^◌, ◌≤◌}
-use Rattle.kit.proofs.{◌<◌, arith, w64, Fits, ℤ, mag}
+use Rattle.kit.proofs.{◌≡◌, refl, sym, ap, ◌∙◌, Bool, true, false, List, ◌∷◌, ⊎_elim, ℕ, suc, ◌+◌, ◌-◌, ◌^◌, ◌≤◌}
+use Rattle.kit.proofs.{◌<◌, arith, ℤ, mag}
 use Rattle.signed.proofs.{signed, reads-back}
 use Rattle.words.specs.{low_of, Readings, declared.Range.TheVariants.Held, declared.Reading.Reading}
 use Rattle.words.specs.declared.{Column.Column, NodeId.NodeId, Range.Range, Range.TheVariants.Empty}
@@ -13,7 +13,7 @@ use Rattle.node.specs.declared.Halves.{Halves}
 use Rattle.examining.proofs.Answers.{Stepped, stepped, not-stepped}
 use Rattle.stepping.specs.Nodes.{At, Below, is_pair_of, left_reached, right_reached}
 use Rattle.stepping.specs.{Stepping.Steps, Stepping.SteppedDown, Stepping.SteppedFrom, declared.Reached.Reached}
-use Rattle.stepping.proofs.Lending.{steps, small-number, some-hours, ends-within, left_below, right-below}
+use Rattle.stepping.proofs.Lending.{steps, some-hours, ends-within, left_below, right-below}
 use Rattle.stepping.proofs.Touching.{left_at, right-at}
 use Rattle.walking.specs.declared.{Towards.Towards, Walked.Walked}
 use Rattle.walking.specs.Walking.{takes_left, towards, Walks, Small, WalkedFrom}
@@ -171,20 +171,8 @@ module _ (n : ℕ) (cs : List ℤ) (ks : List ℕ) (w : Towards) where
         came.rest _ (rw (reads-back z fits, e) (hour-came c at came.below one))
 
     module _ (two : 2 ≤ at.hours) where
-      pub number_small : 2 * at.id.0 < 2 ^ 63
-      number_small = omega (arith, small-number came.below)
-
       pub ends-early : at.from.0 + at.hours < 2 ^ 64
       ends-early = omega (arith, ends-within came.below)
-
-      pub counts : Below 1 cs ks start → Fits w64 (c + 1)
-      counts b = omega (arith, came.room, ends-within b)
-
-      pub left-falls : {r : Range} {u : Reached} → u ≡ left_reached at r → u.hours < at.hours
-      left-falls e = rw e (omega arith)
-
-      pub right-falls : {r : Range} {u : Reached} → u ≡ right_reached at r → u.hours < at.hours
-      right-falls e = rw e (omega arith)
 
       module _ {pair : Bool} (asked : pair ≡ is_pair_of at.hours) where
         pub steps-there : Steps cs ks at.id at.from pair at.range
@@ -215,5 +203,3 @@ module _ (n : ℕ) (cs : List ℤ) (ks : List ℕ) (w : Towards) where
                   room = omega (arith, came.room);
                   rest = λ r d. came.rest r (goes-right c at two a b down (sym told ∙ right-taken) r d);
                 })
-
-pub ruleset walks-on = (number_small, ends-early, counts, left-falls, right-falls, steps-there)
