@@ -74,6 +74,11 @@ fn function(text: &str) -> Declared {
     Declared { name: name.into(), parts: parts(list, ',', of_rust), gives: gives.trim().into() }
 }
 
+/// The functions of a file of Rattle that C can call.
+fn rattle_functions(text: &str) -> Vec<Declared> {
+    all_between(text, "extern \"C\" fn ", "\n    ensures").into_iter().map(function).collect()
+}
+
 /// The structs of a file of Rattle or Rust that C takes as they are.
 fn structs(text: &str) -> Vec<Declared> {
     let declared = all_between(text, "#[repr(C)]\n", "}").into_iter().map(|text| {
@@ -112,9 +117,9 @@ fn sorted(mut declared: Vec<Declared>) -> Vec<Declared> {
 #[test]
 fn functions_are_those_of_the_boundary() {
     let boundary = file("crates/sagivelume_c/src/lib.rt");
-    let exported: Vec<Declared> =
-        all_between(&boundary, "extern \"C\" fn ", "\n    ensures").into_iter().map(function).collect();
+    let exported = rattle_functions(&boundary);
     assert_eq!(exported.len(), boundary.matches("#[unsafe(no_mangle)]").count());
+    assert_eq!(rattle_functions(&file("crates/sagivelume/src/lib.rt")), exported);
 
     assert_eq!(c_functions(&file("user/include/sagivelume.h")), exported);
 

@@ -56,7 +56,8 @@ fn refused_by(word: &str) -> Option<u8> {
 fn refusals_are_in_the_order_of_the_definitions() {
     let files = ["Calls", "OldLog", "RecordCalls", "Columns", "Stopped", "Finished", "Days"];
     let definitions = files.map(|name| file(&format!("crates/om3/specs/{name}.antt"))).concat();
-    let boundary = file("crates/sagivelume/src/lib.rt");
+    let boundary = file("crates/sagivelume_c/src/lib.rt");
+    let library = file("crates/sagivelume/src/lib.rt");
     let header = file("user/include/sagivelume.h");
     let modules = modules();
     for (call, list) in CHECKED {
@@ -66,6 +67,7 @@ fn refusals_are_in_the_order_of_the_definitions() {
         // Two checks of one number, one after the other, are one in the order that is told.
         order.dedup();
         assert_eq!(refusals(&boundary, &format!("fn sagivelume_{call}(")), order, "{call}");
+        assert_eq!(refusals(&library, &format!("fn sagivelume_{call}(")), order, "{call}");
         assert_eq!(refusals(&header, &format!(" sagivelume_{call}(")), order, "{call}");
         assert_eq!(refusals(&modules, &format!("pub fn {call}(")), order, "{call}");
     }
@@ -132,6 +134,6 @@ fn pages_have_the_refusals() {
     let record = file("docs/RECORD.md");
     let (_, table) = record.split_once("## What is refused").expect("a table");
     let numbers: Vec<u8> = all_between(table, "\n| ", " |").into_iter().filter_map(|row| row.parse().ok()).collect();
-    let order = refusals(&file("crates/sagivelume/src/lib.rt"), "fn sagivelume_read_record(");
+    let order = refusals(&file("crates/sagivelume_c/src/lib.rt"), "fn sagivelume_read_record(");
     assert_eq!(numbers, [order, vec![13]].concat());
 }
