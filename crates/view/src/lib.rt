@@ -10,7 +10,7 @@ use words::{Asking, Opening};
 // A record's bytes, and how many coefficients it has. `open` does not answer "refused, or a view": the view of bytes that
 // opening refuses has 0 places, and each place asked for is refused with 13. Whoever wants to know why asks
 // `opening::open_record`.
-#[derive(Drop)]
+#[derive(Clone, Copy)]
 pub struct View<'a> {
     pub bytes: &'a [u8],
     pub places: usize,
