@@ -2,7 +2,7 @@
 use Rattle.kit.proofs.{◌≡◌, sym, ◌∙◌, List, [], ◌∷◌, ℕ, ℤ}
 use Rattle.words.specs.declared.{Column.Column, Edges.Edges, Finished.Finished, Refusal.Refusal, Stopped.Stopped}
 use Rattle.om3.specs.Document.{levels, Table, lent, Check, passes, refuses, in_order, answer_by, check_depth, column}
-use Rattle.om3.specs.Document.{opened_nodes, examine_column, stopped, answer, finished_nodes, finished}
+use Rattle.om3.specs.Document.{opened_nodes, examine_column, stopped, finished_nodes, finished}
 use Rattle.laws.proofs.Examined.{then-passes}
 use Rattle.columns.specs.Drawing.{StoppedAt, FinishedOver}
 use Rattle.sizes.specs.Lent.{lent_check}

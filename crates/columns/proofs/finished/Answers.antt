@@ -1,0 +1,12 @@
+-- `finished` makes the checks in their order, and then finishes the column. Assumes nothing.
+use Rattle.columns.proofs.Calls as laws
+use Rattle.columns.proofs.finished.Goals as goal
+
+pub returns-in-Refused : goal.returns-in-Refused
+returns-in-Refused c = search (laws.finished-lent, c.in-Refused.ensures)
+
+pub returns-in-Refused-column_of : goal.returns-in-Refused-column_of
+returns-in-Refused-column_of c = search (laws.finished-window, c.in-Places.ensures.checks)
+
+pub returns-in-Hours : goal.returns-in-Hours
+returns-in-Hours c = search (laws.finished-column, c.in-Places.ensures.checks)
