@@ -1,0 +1,2 @@
+-- What the functions that C links ask and promise.
+pub mod Clauses
