@@ -11,7 +11,8 @@
 --   inside_of x at            it lies wholly inside the column
 --   opened_of x stop at       it is opened, where nodes of the depth cover `stop` hours
 --   StopsAt l d x stop       the depth is d, whose nodes cover `stop` hours, and the column x has an hour
-use Rattle.std.specs.Prelude.{◌≡◌, Bool, not, ◌&&◌, List, ℕ, suc, ◌+◌, ◌-◌, ◌*◌, ◌/◌, ◌^◌, ◌≤◌, ◌<◌, leb, ltb, ℤ, length}
+use Rattle.std.specs.Prelude.{◌≡◌, Bool, not, ◌&&◌, List, ℕ, suc, ◌+◌, ◌-◌, ◌*◌, ◌/◌, ◌^◌, ◌≤◌, ◌<◌, leb, ltb, ℤ}
+use Rattle.std.specs.Prelude.{length}
 use Rattle.words.specs.Constants.{largest_level}
 use Rattle.words.specs.declared.Column.{Column}
 use Rattle.words.specs.declared.Range.{Range}
