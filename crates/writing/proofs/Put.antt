@@ -1,8 +1,10 @@
 -- The parts of a record are put one after the other, each right after what is there. Assumes nothing.
-use Rattle.kit.proofs.{◌≡◌, refl, ◌∙◌, List, ◌++◌, flat_map, ℕ, ◌+◌, ◌-◌, ◌*◌, ◌/◌, ◌≤◌, arith, ℤ, length, take, drop, set}
+use Rattle.kit.proofs.{◌≡◌, refl, ◌∙◌, List, ◌++◌, flat_map, ℕ, ◌+◌, ◌-◌, ◌*◌, ◌/◌, ◌≤◌, arith, ℤ, length, take, drop}
+use Rattle.kit.proofs.{set}
 use Rattle.kit.proofs.{length-append, length-drop, length-take-le, take_all}
 use Rattle.words.specs.{version}
-use Rattle.om3.specs.Document.{P, lent, filled, bytes_of, three_bytes, length_for, record_length, header_of, header_size}
+use Rattle.om3.specs.Document.{P, lent, filled, bytes_of, three_bytes, length_for, record_length, header_of}
+use Rattle.om3.specs.Document.{header_size}
 use Rattle.om3.specs.Document.{record_of}
 use Rattle.laws.proofs.Filled.{filled-length, filled-part, filled-set}
 use Rattle.laws.proofs.{Bytes.bytes-length, ThreeBytes.threes-size, Records.header-size}

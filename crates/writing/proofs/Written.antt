@@ -42,7 +42,8 @@ module _ (n : ℕ) (cs : List ℤ) (ks out : List ℕ) where
     examined : checks ≡ examine_table n (lent cs ks)
     examined = checked.decided n cs ks (length out) (record_size n) h
 
-    pub unsound-refused : (r : Verdict) → check_of r ≡ examine_table n (lent cs ks) → (i : NodeId) → r ≡ Verdict.Unsound i
+    pub unsound-refused : (r : Verdict) → check_of r ≡ examine_table n (lent cs ks) → (i : NodeId)
+        → r ≡ Verdict.Unsound i
         → RecordWritten n cs ks out out (Writing.Refused (refusal.Unsound i))
     unsound-refused r e i g = refused (examined ∙ sym (rw g at e))
 
