@@ -13,7 +13,8 @@ use Rattle.view.proofs.ask_record as ask_record_code
 
 abbrev pub OpenCall : Type 2
 OpenCall =
-    Call open.ended (λ M 𝓤 𝓛. open.clauses 𝓛) open_code.Symbol.code open.Key.name (λ κs bytes r e. r ≡ view_of bytes) (λ κs r e. r)
+    Call open.ended (λ M 𝓤 𝓛. open.clauses 𝓛) open_code.Symbol.code open.Key.name (λ κs bytes r e. r ≡ view_of bytes)
+    (λ κs r e. r)
 
 pub open-call : OpenCall
 open-call = record { clauses = λ 𝓛 mem run. refl; meets = open_code.Met.met; one = λ κs a r r' e e' x y. x ∙ sym y }

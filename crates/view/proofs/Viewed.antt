@@ -16,7 +16,8 @@ module _ (r : List ℕ) where
   places-by c = answer_by (λ why. 0) c (P (hours_in r))
 
   -- A record that opening takes has a view of as many places as opening says, other bytes have one of none.
-  pub opened-places : {x : Opening} (n places : ℕ) → x ≡ Opening.Record n places → x ≡ opening r → places ≡ view_places r
+  pub opened-places : {x : Opening} (n places : ℕ) → x ≡ Opening.Record n places → x ≡ opening r
+      → places ≡ view_places r
   unfolding opening view_places
   opened-places n places is e = by (in_order (opening_checks r)) (sym is ∙ e)
     where

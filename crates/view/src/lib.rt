@@ -7,8 +7,8 @@ ghost use Rattle.view.specs.View.{view_places, view_of};
 
 use words::{Asking, Opening};
 
-// A record's bytes, and how many coefficients it has. `open` does not answer "refused, or a view": the view of bytes that
-// opening refuses has 0 places, and each place asked for is refused with 13. Whoever wants to know why asks
+// A record's bytes, and how many coefficients it has. `open` does not answer "refused, or a view": the view of bytes
+// that opening refuses has 0 places, and each place asked for is refused with 13. Whoever wants to know why asks
 // `opening::open_record`.
 #[derive(Clone, Copy)]
 pub struct View<'a> {
