@@ -70,7 +70,8 @@ module _ (r : List ℕ) (p : ℕ) where
   unfolding opening
   refused-asked why is e = by (in_order (opening_checks r)) refl (sym is ∙ e)
     where
-      by : (c : Check) → in_order (opening_checks r) ≡ c → Opening.Refused why ≡ told c → Asking.Refused why ≡ asking r p
+      by : (c : Check) → in_order (opening_checks r) ≡ c → Opening.Refused why ≡ told c
+          → Asking.Refused why ≡ asking r p
       by passes opens h = cc
       by (refuses other) opens h =
           let same : why ≡ other = cc in

@@ -5,8 +5,10 @@ use Rattle.words.specs.{version}
 use Rattle.words.specs.declared.Refusal.{Refusal}
 use Rattle.words.specs.declared.Refusal.TheVariants.{BadHours, CutShort, BadVersion, BadLength, BytesAfter}
 use Rattle.words.specs.declared.Opening.{Opening}
-use Rattle.om3.specs.Document.{bad_hours, P, refuses, refuse_if, in_order, check_hours, number_from, length_for, record_length}
-use Rattle.om3.specs.Document.{record_size, header_size, length_in, version_in, hours_in, check_length, check_cut, check_after}
+use Rattle.om3.specs.Document.{bad_hours, P, refuses, refuse_if, in_order, check_hours, number_from, length_for}
+use Rattle.om3.specs.Document.{record_length}
+use Rattle.om3.specs.Document.{record_size, header_size, length_in, version_in, hours_in, check_length, check_cut}
+use Rattle.om3.specs.Document.{check_after}
 use Rattle.om3.specs.Document.{opening_checks, opening}
 
 module _ (r : List ℕ) where
