@@ -5,7 +5,8 @@ use Rattle.kit.proofs.{◌<◌, arith, ℤ, mag}
 use Rattle.signed.proofs.{signed, reads-back}
 use Rattle.words.specs.{low_of, Readings, declared.Range.TheVariants.Held, declared.Reading.Reading}
 use Rattle.words.specs.declared.{Column.Column, NodeId.NodeId, Range.Range, Range.TheVariants.Empty}
-use Rattle.om3.specs.Document.{Node, number, left, right, Table, lent, reached, in_order, sound_node, walk_nodes, walk_end}
+use Rattle.om3.specs.Document.{Node, number, left, right, Table, lent, reached, in_order, sound_node, walk_nodes}
+use Rattle.om3.specs.Document.{walk_end}
 use Rattle.om3.specs.Document.{reading_at}
 use Rattle.laws.proofs.{Tests.below_or_not, Nodes.width-half, Nodes.start-hour, Intervals.width_some}
 use Rattle.node.proofs.{Located.above-hours, Told.back}
