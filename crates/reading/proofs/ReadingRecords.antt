@@ -3,7 +3,8 @@ use Rattle.kit.proofs.{◌≡◌, refl, sym, ap, ◌∙◌, List, ℕ, ◌+◌, 
 use Rattle.kit.proofs.{drop, length-drop, length-take-le, take-take, take-add, drop_at, drop-drop, ext_get_or}
 use Rattle.words.specs.declared.{Refusal.Refusal, Opening.Opening, Unpacking.Unpacking}
 use Rattle.om3.specs.Document.{P, lent, Check, passes, refuses, in_order, answer_by, Bytes, signed_from, bytes_at}
-use Rattle.om3.specs.Document.{header_size, hours_in, coefficient_in, table_in, opening_checks, unpacking_checks, opening}
+use Rattle.om3.specs.Document.{header_size, hours_in, coefficient_in, table_in, opening_checks, unpacking_checks}
+use Rattle.om3.specs.Document.{opening}
 use Rattle.laws.proofs.{Lists.map-up-length, RecordsOpened.opens-formed, RecordsOpened.asked-unpacked}
 use Rattle.laws.proofs.{RecordsTaken.unpacking-parted}
 use Rattle.packing.specs.Packing.{coefficient_from, unpacked}
