@@ -1,12 +1,11 @@
 -- The checks of the day change, in the parts in which the code makes them, and each of its answers. Assumes nothing.
-use Rattle.kit.proofs.{◌≡◌, refl, sym, ◌∙◌, Bool, true, false, cond, List, [], ◌∷◌, ℕ, ◌*◌, ◌≤◌, ◌<◌, ℤ, eqb, eqb-true}
+use Rattle.kit.proofs.{◌≡◌, refl, sym, ◌∙◌, List, [], ◌∷◌, ℕ, ◌*◌, ◌≤◌, ◌<◌, ℤ}
 use Rattle.kit.proofs.{le-leb, lt-leb}
 use Rattle.words.specs.{day_hours, declared.Refusal.TheVariants.BadWindow}
 use Rattle.words.specs.declared.{Answer.Answer, Column.Column, DayChange.DayChange, Finished.Finished, Refusal.Refusal}
-use Rattle.words.specs.declared.{Summary.Summary}
 use Rattle.om3.specs.Document.{levels, Table, lent, Check, passes, refuses, and_then, in_order, answer_by, check_hours}
-use Rattle.om3.specs.Document.{check_room, table_short, check_day, examine_column, answer, finished_nodes, day, before}
-use Rattle.om3.specs.Document.{change_of, examine_before, day_change}
+use Rattle.om3.specs.Document.{check_room, table_short, check_day, examine_column, answer, finished_nodes, day}
+use Rattle.om3.specs.Document.{examine_before, day_change}
 use Rattle.laws.proofs.Examined.{then-passes}
 use Rattle.sizes.specs.Lent.{lent_check}
 use Rattle.sizes.proofs.Lent.{lent-refuses, lent-passes}
@@ -42,39 +41,12 @@ module _ (n : ℕ) (t : Table) (x : Column) where
   answered-by passes a m g = (refl, cc)
   answered-by (refuses r) a m g = absurd (not-answered (sym g))
 
--- The hours before a day that has a reading: before day 0 there is none, and for a column without an hour the table is
--- not examined, so that one examination serves every day.
 module _ (n : ℕ) (cs : List ℤ) (ks : List ℕ) (d : ℕ) where
   abbrev table : Table
   table = lent cs ks
 
   abbrev examined : Column → Check
   examined x = examine_column (levels n) table x n (finished_nodes (levels n) table x)
-
-  before-examined : (own : Summary) → examine_before n table d (Answer.Found own) ≡ examined (before d)
-  before-examined own = by (eqb d 0) refl
-    where
-      by : (b : Bool) → eqb d 0 ≡ b → cond b passes (examined (before d)) ≡ examined (before d)
-      by true e = rw (eqb-true d 0 e)
-      by false e = refl
-
-  pub given-none : ChangeGiven n cs ks d Answer.NoReading DayChange.NoReading
-  given-none = record { answer = refl }
-
-  module _ (own : Summary) (x : Column) (e : x ≡ before d) where
-    pub given-refused : (why : Refusal) → FinishedOver n cs ks x (Finished.Refused why)
-        → ChangeGiven n cs ks d (Answer.Found own) (DayChange.Refused why)
-    given-refused why F =
-        record {
-          answer =
-              rw (before-examined own, refused-by n table (before d) (examined (before d)) why (rw e at F.answer));
-        }
-
-    pub given-answered : (a : Answer) (m : ℕ) → FinishedOver n cs ks x (Finished.Answered a m)
-        → ChangeGiven n cs ks d (Answer.Found own) (change_of a (Answer.Found own))
-    given-answered a m F =
-        let g = answered-by n table (before d) (examined (before d)) a m (rw e at F.answer) in
-        record { answer = rw (before-examined own, g.0, g.1) }
 
   -- The change of a day.
   pub day-lent : (why : Refusal) → lent_check n table ≡ refuses why → DayChange.Refused why ≡ day_change n table d

@@ -1,25 +1,10 @@
--- The hours of a day and the difference of two readings. Assumes nothing.
-use Rattle.kit.proofs.{◌≡◌, ap, ℕ, ◌+◌, ◌*◌, ◌≤◌, ◌<◌, min, arith, ℤ, ◌-ℤ◌, w32, SFits, to_z, of_z, to_z-of_z}
+-- The difference of two readings. Assumes nothing.
+use Rattle.kit.proofs.{◌≡◌, ℤ, ◌-ℤ◌, w32, SFits, to_z, of_z, to_z-of_z}
 use Rattle.signed.proofs.{signed}
-use Rattle.words.specs.{day_hours, declared.Answer.Answer, declared.Column.Column}
-use Rattle.om3.specs.Document.{hour, day, change_of, added_by}
+use Rattle.words.specs.{declared.Answer.Answer}
+use Rattle.om3.specs.Document.{change_of, added_by}
 use Rattle.walking.specs.Walking.{Small}
 use Rattle.columns.specs.Drawing.{SmallAnswer}
-
--- A day that is not over by hour n is cut there; any other has its 24 hours.
-module _ (n d : ℕ) where
-  abbrev up_to : ℕ → Column
-  up_to e = record { from = hour (day_hours * d); upto = hour e }
-
-  pub day-cut : n < day_hours * d + day_hours → up_to n ≡ day n d
-  day-cut h =
-      let e : n ≡ min (day_hours * d + day_hours) n = omega arith in
-      ap up_to e
-
-  pub day-whole : day_hours * d + day_hours ≤ n → up_to (day_hours * d + day_hours) ≡ day n d
-  day-whole h =
-      let e : day_hours * d + day_hours ≡ min (day_hours * d + day_hours) n = omega arith in
-      ap up_to e
 
 -- What a reading or a gap holds fits into 32 bits.
 small-fits : (z : ℤ) → Small z → SFits w32 z
