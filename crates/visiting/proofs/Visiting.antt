@@ -4,7 +4,8 @@ use Rattle.kit.proofs.{◌≡◌, refl, sym, ap, ◌∙◌, true, false, ◌&&�
 use Rattle.kit.proofs.{◌-◌, ◌≤◌, arith, ℤ, length-append}
 use Rattle.words.specs.declared.{Column.Column, NodeId.NodeId, Range.Range}
 use Rattle.om3.specs.Document.{keep, Node, number, left, right, Table, lent, reached, Check, and_then, in_order}
-use Rattle.om3.specs.Document.{sound_node, nodes_below, examine_node, examine_nodes, has_reading, shares, inside, opened}
+use Rattle.om3.specs.Document.{sound_node, nodes_below, examine_node, examine_nodes, has_reading, shares, inside}
+use Rattle.om3.specs.Document.{opened}
 use Rattle.om3.specs.Document.{visited, is_outer, is_inner}
 use Rattle.node.proofs.Located.{one_more}
 use Rattle.laws.proofs.{Examined.in-order-append, BelowOpened.inner-kept, BelowOpened.inner-end, BelowOpened.outer-end}
