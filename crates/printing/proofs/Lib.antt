@@ -2,7 +2,7 @@
 pub mod Lines
 pub mod ColumnLines
 pub mod Deciding
-pub mod Pieces
+pub mod Header
 pub mod Longer
 pub mod Held
 pub mod InPieces
