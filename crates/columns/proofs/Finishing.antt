@@ -6,7 +6,8 @@ use Rattle.words.specs.declared.{Answer.Answer, Column.Column, Finished.Finished
 use Rattle.words.specs.declared.{Refusal.Refusal, Refusal.TheVariants.Unsound}
 use Rattle.om3.specs.Document.{last_of, levels, Node, InTree, number, Table, lent, Check, passes, and_then, in_order}
 use Rattle.om3.specs.Document.{answer_by, sound_node, examine, examine_node, examine_nodes, examine_root, opened_nodes}
-use Rattle.om3.specs.Document.{count_at, range_over, examine_column, nodes_of, first_walk, last_walk, inside_nodes, walks_from}
+use Rattle.om3.specs.Document.{count_at, range_over, examine_column, nodes_of, first_walk, last_walk, inside_nodes}
+use Rattle.om3.specs.Document.{walks_from}
 use Rattle.om3.specs.Document.{answer, count, finished_nodes}
 use Rattle.laws.proofs.{Examined.then-assoc, Examined.in-order-append, Listed.All, NeverRefused.last-in}
 use Rattle.laws.proofs.{WithoutHours.none_inside, WithoutHours.none-count}
@@ -169,7 +170,8 @@ module _ (n : ℕ) (cs : List ℤ) (ks : List ℕ) (x : Column) where
         count-all : count l T x ≡ 1 + 2 * s.opened + (l - u.level) + (l - v.level)
         count-all = rw list (omega (arith, count-is))
 
-        found-is : (range : Range) → range ≡ range_over l T (u ∷ us) → answer_by Finished.Refused (walks_check l n T u v)
+        found-is : (range : Range) → range ≡ range_over l T (u ∷ us)
+            → answer_by Finished.Refused (walks_check l n T u v)
             (Finished.Answered (found_of l T range u v) (1 + 2 * s.opened + (l - u.level) + (l - v.level)))
             ≡ answer_by Finished.Refused (examine_column l T x n (finished_nodes l T x)) (finished_answer n T x)
         found-is range e = rw (e, walks-checked, sym answer-is, sym count-all)

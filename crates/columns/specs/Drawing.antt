@@ -3,7 +3,8 @@
 --   inner_range i           the range over the nodes of an inner range
 --   StoppedOver            the contract of a column stopped at nodes of so many hours, its buffers lent
 --   StoppedAt              the contract of check 7 and of the column stopped at that depth, its buffers lent
---   stopped_answer          what a column answers whose examination passes, stopped at a depth; finished_answer, finished
+--   stopped_answer          what a column answers whose examination passes, stopped at a depth; finished_answer,
+--                           finished
 --   SmallAnswer a          first and last reading of an answer are small enough to subtract
 --   Answers r              every answer of r is so
 --   walks_check, found_of    the examination of the walks from node u and from node v, and the answer they lead to
@@ -14,8 +15,10 @@ use Rattle.std.specs.Prelude.{List, [], ◌∷◌, ℕ, ◌+◌, ◌-◌, ◌^�
 use Rattle.words.specs.{low_of, high_of}
 use Rattle.words.specs.declared.{Column.Column, Range.Range, Range.TheVariants.Empty, Answer.Answer, Finished.Finished}
 use Rattle.words.specs.declared.{Stopped.Stopped}
-use Rattle.om3.specs.Document.{levels, Node, Table, lent, Check, and_then, in_order, answer_by, examine_nodes, check_depth}
-use Rattle.om3.specs.Document.{opened_nodes, count_at, outer, inner, examine_column, nodes_of, end_of, first_walk, last_walk}
+use Rattle.om3.specs.Document.{levels, Node, Table, lent, Check, and_then, in_order, answer_by, examine_nodes}
+use Rattle.om3.specs.Document.{check_depth}
+use Rattle.om3.specs.Document.{opened_nodes, count_at, outer, inner, examine_column, nodes_of, end_of, first_walk}
+use Rattle.om3.specs.Document.{last_walk}
 use Rattle.om3.specs.Document.{reading_at, answer, count, finished_nodes}
 use Rattle.stepping.specs.{Nodes.At, declared.Reached.Reached}
 use Rattle.sight.specs.declared.Inner.{Inner}
