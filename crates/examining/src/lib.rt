@@ -14,7 +14,7 @@ use node::{Halves, Root};
 use words::{NodeId, Range, Timestamp};
 
 // A table, or a part of it, is sound, or this is its first unsound node.
-#[derive(Drop)]
+#[derive(Clone, Copy)]
 pub enum Verdict {
     Sound,
     Unsound(NodeId),

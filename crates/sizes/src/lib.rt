@@ -12,7 +12,7 @@ ghost use Rattle.sizes.specs.Needed.{places_needed, bytes_needed};
 use words::Refusal;
 
 // What checks 1 and 3 of a table answer: its refusal, or P, for which both buffers are long enough.
-#[derive(Drop)]
+#[derive(Clone, Copy)]
 pub enum Lending {
     Refused(Refusal),
     Places(usize),

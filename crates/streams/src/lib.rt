@@ -19,7 +19,7 @@ const MOST_TURNS: u64 = u64::MAX;
 const REASON: usize = 256;
 
 // What came of standard input: all of it, or not all.
-#[derive(Drop)]
+#[derive(Clone, Copy)]
 pub enum Input {
     Whole(Text),
     Cut,
