@@ -10,6 +10,7 @@ overflow_add-walked c =
     omega (
       arith,
       c.in-Came.ensures.few _ _ refl,
+      c.in-Came-walk.ensures.few _ _ refl,
       ends-within c.requires.below.0,
       ends-within c.requires.below.1,
       c.requires.count_bound,
