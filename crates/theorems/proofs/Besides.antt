@@ -24,7 +24,7 @@ make-after-turn-back : (n : ℕ) (cs : List ℤ) (ks : List ℕ) (out out' : Lis
     → TurnedBack n cs ks out out' Taking.Taken → (cs₁ : List ℤ) (ks₁ : List ℕ) → table_short n (lent cs₁ ks₁) ≡ false
     → (cs₂ : List ℤ) (ks₂ : List ℕ) (r : Taking) → Made n out' cs₁ ks₁ cs₂ ks₂ r
     → (r ≡ Taking.Taken) × (cs₂ ≡ filled (take (P n) cs) cs₁) × (ks₂ ≡ filled (take (P n / 2) ks) ks₁)
-make-after-turn-back = theorems.Calls.Made-after
+make-after-turn-back = theorems.Calls.made_after
 
 -- Reading after writing gives the same table and n.
 read-after-write : (n : ℕ) (cs : List ℤ) (ks out out' : List ℕ) (b : ℕ)

@@ -1,7 +1,7 @@
 -- The printer's calls, by their contracts, write what document 01 prints for all pieces together. Assumes nothing.
 use Rattle.kit.proofs.{◌≡◌, sym, ap, ◌∙◌, List, [], ◌∷◌, ◌++◌, foldl, flatten, ℕ, ◌+◌, ◌-◌, ◌^◌, ◌≤◌, ◌<◌, arith}
 use Rattle.kit.proofs.{length, take, drop, sets, sets-eq}
-use Rattle.om3.specs.Document.{Table, lent, filled, printed}
+use Rattle.om3.specs.Document.{Table, lent, filled}
 use Rattle.laws.proofs.Filled.{filled-first}
 use Rattle.parsing.specs.Parsing.{Progress, progress, begun, read_on, closed}
 use Rattle.printing.specs.declared.Drawing.{Drawing}

@@ -67,7 +67,8 @@ module _ (n : ℕ) (s : List ℤ) (coefficients : Bor (List ℤ)) (codes : Bor (
 -- So it is after making, whenever the buffers that it left are lent: of the readings that were made into the table.
 module _ (κs : _) (n : _) (readings : _) (coefficients : _) (codes : _) (m : _) (e : _)
     (made : boundary.MakePromises κs n readings coefficients codes m e) (zero : m.number ≡ 0) where
-  days-after-make : (coefficients' : _) (codes' : _) → coefficients'.now ≡ (third e).now → codes'.now ≡ (fourth e).now
+  days-after-make : (coefficients' : Bor (List ℤ)) (codes' : Bor (List ℕ))
+      → coefficients'.now ≡ (third e).now → codes'.now ≡ (fourth e).now
       → (κs' : ℕ → _) (r : ℕ → _) (e' : ℕ → _)
       → ((d : ℕ) → day_hours * d < n → boundary.DayChangePromises (κs' d) n coefficients' codes' d (r d) (e' d))
       → total (map (λ d. (r d).grams) (days_of n)) ≡ span_of (look_through n (take n readings.now) (hours_from 0 n))
