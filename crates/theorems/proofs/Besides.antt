@@ -1,12 +1,15 @@
 -- What is proved beside the demands: making after turning back, reading after writing and writing after reading, single
 -- coefficients, what the boundary tells, the columns of a window, how the looks through parts make up the whole, and
 -- what the printer prints. Assumes nothing.
-use Rattle.kit.proofs.{◌≡◌, false, List, map, flatten, flat_map, ℕ, ◌-◌, ◌/◌, ◌^◌, ◌≤◌, ◌<◌, ℤ, pos, length, get_or, take}
+use Rattle.kit.proofs.{◌≡◌, false, List, map, flatten, flat_map, ℕ, ◌-◌, ◌/◌, ◌^◌, ◌≤◌, ◌<◌, ℤ, pos, length, get_or}
+use Rattle.kit.proofs.{take}
 use denote.Ref.{Bor}
 use Rattle.words.specs.declared.{Answer.Answer, HourLine.HourLine, Refusal.Refusal, Taking.Taking, Writing.Writing}
 use Rattle.words.specs.declared.{Unpacking.Unpacking, Asking.Asking, Finished.Finished}
-use Rattle.om3.specs.Document.{up_from, Series, levels, P, hours_from, table_of, lent, table_short, filled, passes, refuses}
-use Rattle.om3.specs.Document.{in_order, coefficient_in, opening_checks, asking_view, asking, column, column_hours, finished}
+use Rattle.om3.specs.Document.{up_from, Series, levels, P, hours_from, table_of, lent, table_short, filled, passes}
+use Rattle.om3.specs.Document.{refuses}
+use Rattle.om3.specs.Document.{in_order, coefficient_in, opening_checks, asking_view, asking, column, column_hours}
+use Rattle.om3.specs.Document.{finished}
 use Rattle.om3.specs.Document.{joined, look_through, count, grams_of, printing_checks}
 use Rattle.laws.proofs as laws
 use Rattle.making.specs.Making.{Made}

@@ -1,10 +1,12 @@
 -- Demand 2 for the calls: what their contracts say of a table that is turned back, and of going there and back. Assumes
 -- nothing.
-use Rattle.kit.proofs.{◌≡◌, sym, ap, ◌∙◌, true, false, List, ◌↔◌, ℕ, ◌/◌, ◌≤◌, ℤ, length, get_or, take, get_or-take, le-ltb}
+use Rattle.kit.proofs.{◌≡◌, sym, ap, ◌∙◌, true, false, List, ◌↔◌, ℕ, ◌/◌, ◌≤◌, ℤ, length, get_or, take, get_or-take}
+use Rattle.kit.proofs.{le-ltb}
 use Rattle.words.specs.{largest_hours, gap}
 use Rattle.words.specs.declared.Taking.{Taking}
 use Rattle.om3.specs.Document.{Holds, Series, levels, P, Table, coefficient, code_of_place, table_of, HasTable, lent}
-use Rattle.om3.specs.Document.{turned_back, passes, in_order, sound_table, table_short, making_checks, turning_back_checks}
+use Rattle.om3.specs.Document.{turned_back, passes, in_order, sound_table, table_short, making_checks}
+use Rattle.om3.specs.Document.{turning_back_checks}
 use Rattle.om3.specs.Document.{filled}
 use Rattle.sizes.specs.Lent.{TableLent, Enough}
 use Rattle.laws.proofs.{Filled.filled-first, Filled.filled-room, Lists.map-up-length, Lists.take-room}
@@ -105,7 +107,8 @@ module _ (n : ℕ) where
         )
 
   -- With room lent, making takes a series, the first n numbers lent, and writes its table, and nothing after it.
-  module _ (s cs : List ℤ) (ks : List ℕ) (series : Series n (take n s)) (room : table_short n (lent cs ks) ≡ false) where
+  module _ (s cs : List ℤ) (ks : List ℕ) (series : Series n (take n s))
+      (room : table_short n (lent cs ks) ≡ false) where
     lent-holds : Holds n s
     lent-holds k b = rw (get_or-take n s k gap b) at (series.holds k b)
 

@@ -1,7 +1,8 @@
 -- The changes of days, as the boundary tells them, from a table that a series has. Assumes nothing.
 use Rattle.kit.proofs.{◌≡◌, refl, ap, ◌∙◌, List, map, ℕ, ◌*◌, ◌<◌, ℤ, pos, neg_ℤ, ◌≤ℤ◌}
 use Rattle.words.specs.{day_hours, largest_reading, declared.DayChange.DayChange}
-use Rattle.om3.specs.Document.{total, Series, hours_from, HasTable, lent, change_of, day_change, days_of, added_by, span_of}
+use Rattle.om3.specs.Document.{total, Series, hours_from, HasTable, lent, change_of, day_change, days_of, added_by}
+use Rattle.om3.specs.Document.{span_of}
 use Rattle.om3.specs.Document.{look_through}
 use Rattle.laws.proofs.Days.{look_on, look_before, day-drawn, days-add-up, change-bounds}
 use Rattle.told.specs.{declared.columns.ToldChange.ToldChange, Columns.change_told}
@@ -19,7 +20,8 @@ module _ (n : ℕ) (s cs : List ℤ) (ks : List ℕ) (series : Series n s) (has 
     change-told = told ∙ ap change_told (day-drawn n s (lent cs ks) series has d there)
 
     pub change-adds : r.grams ≡ added_by (change_of (look_before n s d) (look_on n s d))
-    change-adds = ap (λ (u : ToldChange). u.grams) change-told ∙ told-adds (change_of (look_before n s d) (look_on n s d))
+    change-adds = ap (λ (u : ToldChange). u.grams) change-told
+        ∙ told-adds (change_of (look_before n s d) (look_on n s d))
 
     pub change-within : (neg_ℤ (pos (2 * largest_reading)) ≤ℤ r.grams) × (r.grams ≤ℤ pos (2 * largest_reading))
     change-within = rw change-adds (change-bounds n s series d)

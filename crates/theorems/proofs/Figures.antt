@@ -1,7 +1,8 @@
 -- Document 01's numbers, those of documents 003 and 004, and two causes at a time, as the definitions answer them.
 -- Assumes nothing.
 use Prim.Native.Nat.{ℕ}
-use Rattle.om3.specs.Document.{Answered, numbers, unmarked, outside, further, printing, two_causes, old_logs, day_changes}
+use Rattle.om3.specs.Document.{Answered, numbers, unmarked, outside, further, printing, two_causes, old_logs}
+use Rattle.om3.specs.Document.{day_changes}
 use Rattle.om3.proofs.Numbers.{numbers-hold, unmarked-hold, outside-hold, further-hold, printing-holds}
 use Rattle.om3.proofs.{Causes.two-causes-hold, LaterNumbers.old-logs-hold, LaterNumbers.day-changes-hold}
 

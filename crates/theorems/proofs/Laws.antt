@@ -8,9 +8,12 @@ use Rattle.words.specs.{largest_hours}
 use Rattle.words.specs.declared.{Timestamp.Timestamp, Range.Range, Answer.Answer, Column.Column}
 use Rattle.om3.specs.Document.{every, Series, levels, P, Node, InTree, number, left, right, hours, node_of, Table}
 use Rattle.om3.specs.Document.{table_of, HasTable, turned_back, passes, in_order, table_nodes, sound_table, table_short}
-use Rattle.om3.specs.Document.{examine_table, Bytes, InThree, three_bytes, signed_from, record_size, record_of, hours_in}
-use Rattle.om3.specs.Document.{table_in, opening_checks, Openable, asking_view, asking, ceil, count_at, outer, inner_nodes}
-use Rattle.om3.specs.Document.{inner, inside_nodes, answer, count, joined, ascii, zero_digit, is_digit, value_of, decimal}
+use Rattle.om3.specs.Document.{examine_table, Bytes, InThree, three_bytes, signed_from, record_size, record_of}
+use Rattle.om3.specs.Document.{hours_in}
+use Rattle.om3.specs.Document.{table_in, opening_checks, Openable, asking_view, asking, ceil, count_at, outer}
+use Rattle.om3.specs.Document.{inner_nodes}
+use Rattle.om3.specs.Document.{inner, inside_nodes, answer, count, joined, ascii, zero_digit, is_digit, value_of}
+use Rattle.om3.specs.Document.{decimal}
 use Rattle.om3.specs.Document.{look_through}
 use Rattle.laws.proofs as laws
 
@@ -116,7 +119,8 @@ opening-exactly : (r : List ℕ) → (in_order (opening_checks r) ≡ passes) �
 opening-exactly = laws.RecordsOpened.opening-exactly
 
 -- A record that opening takes reaches each of its P places, so asking it is asking its view.
-asking-opened : (r : List ℕ) (p : ℕ) → in_order (opening_checks r) ≡ passes → asking r p ≡ asking_view r (P (hours_in r)) p
+asking-opened : (r : List ℕ) (p : ℕ) → in_order (opening_checks r) ≡ passes
+    → asking r p ≡ asking_view r (P (hours_in r)) p
 asking-opened = laws.RecordsOpened.asking-opened
 
 -- Edges are rounded up: `ceil m w` is the least number that times w is at least m.

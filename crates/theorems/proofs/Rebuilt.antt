@@ -1,7 +1,8 @@
 -- Rebuilding the series of an old log, as the boundary tells it. Assumes nothing.
 use Rattle.kit.proofs.{◌≡◌, sym, ◌∙◌, false, ◌||◌, List, ◌↔◌, ℕ, ℤ, length, take}
 use Rattle.words.specs.declared.{Timestamp.Timestamp, Taking.Taking}
-use Rattle.om3.specs.Document.{Series, bad_hours, short, filled, rebuilt_series, rebuilding_checks, TrueLog, true_series}
+use Rattle.om3.specs.Document.{Series, bad_hours, short, filled, rebuilt_series, rebuilding_checks, TrueLog}
+use Rattle.om3.specs.Document.{true_series}
 use Rattle.om3.specs.Document.{held_at, hour, in_order, rebuilt, recorded_hours}
 use Rattle.laws.proofs.{Filled.filled-first, Lists.map-up-length, Taken.taken-passes, OldLogs.rebuilt-series}
 use Rattle.laws.proofs.TrueLogs.{true-passes, true-series}

@@ -112,7 +112,8 @@ module _ (r : List ℕ) (cs : List ℤ) (ks : List ℕ) (cs' : List ℤ) (ks' : 
   stated-hours = both.1
 
   abbrev parted : and_then (in_order (opening_checks r))
-      (in_order (check_room (table_short (hours_in r) (lent cs ks)) ∷ examine_table (hours_in r) (table_in r) ∷ [])) ≡ passes
+      (in_order (check_room (table_short (hours_in r) (lent cs ks)) ∷ examine_table (hours_in r) (table_in r) ∷ []))
+      ≡ passes
   parted = sym (unpacking-parted r (lent cs ks)) ∙ read-checks
 
   opens : in_order (opening_checks r) ≡ passes
@@ -160,7 +161,8 @@ module _ (r : List ℕ) (cs : List ℤ) (ks : List ℕ) (cs' : List ℤ) (ks' : 
     its-series = (reading-exactly r bytes (lent cs ks) room-lent).0 read-checks
 
     -- The table that reading left has that series too ..
-    left-table : (s : List ℤ) → Series (hours_in r) s → HasRecord (hours_in r) s r → HasTable (hours_in r) s (lent cs' ks')
+    left-table : (s : List ℤ) → Series (hours_in r) s → HasRecord (hours_in r) s r
+        → HasTable (hours_in r) s (lent cs' ks')
     left-table s series has =
         let left = read-writes r bytes cs ks room-lent cs' ks' (Unpacking.Hours n) done s series has in
         filled-has (hours_in r) s cs cs' ks ks' left.0 left.1

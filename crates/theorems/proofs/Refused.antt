@@ -6,7 +6,8 @@ use Rattle.words.specs.declared.{Refusal.Refusal, Taking.Taking, Writing.Writing
 use Rattle.words.specs.declared.{Asking.Asking, Edges.Edges, Stopped.Stopped, Answer.Answer, Finished.Finished}
 use Rattle.words.specs.declared.{DayChange.DayChange}
 use Rattle.words.specs.declared.Refusal.TheVariants as refusal
-use Rattle.om3.specs.Document.{Check, passes, refuses, in_order, answer_by, levels, lent, answer, day, before, change_of}
+use Rattle.om3.specs.Document.{Check, passes, refuses, in_order, answer_by, levels, lent, answer, day, before}
+use Rattle.om3.specs.Document.{change_of}
 use Rattle.om3.specs.Document.{opening, asking_view, edges, stopped, finished, day_change}
 use Rattle.laws.proofs.Examined.{first-cause}
 use Rattle.told.specs.declared.tables.Told.{Told}

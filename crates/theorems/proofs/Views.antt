@@ -2,7 +2,8 @@
 use Rattle.kit.proofs.{◌≡◌, sym, ap, ◌∙◌, List, ℕ, ◌<◌}
 use denote.Ref.{Bor}
 use Rattle.words.specs.declared.{Refusal.Refusal, Refusal.TheVariants.BadPlace, Asking.Asking}
-use Rattle.om3.specs.Document.{P, passes, refuses, in_order, hours_in, coefficient_in, opening_checks, opening, asking_view}
+use Rattle.om3.specs.Document.{P, passes, refuses, in_order, hours_in, coefficient_in, opening_checks, opening}
+use Rattle.om3.specs.Document.{asking_view}
 use Rattle.om3.specs.Document.{asking}
 use Rattle.view.specs.declared.View.{View}
 use Rattle.view.specs.View.{view_places, view_of}

@@ -12,7 +12,8 @@ use Rattle.std.specs.Prelude.{List, [], ◌∷◌, ℕ, length}
 use Rattle.kit.specs.Calls.{second, third, fourth, fifth}
 use Rattle.words.specs.{number_of, place_of}
 use Rattle.words.specs.declared.Refusal.{Refusal}
-use Rattle.om3.specs.Document.{levels, Check, FirstCause, lent, check_hours, check_readings, short, table_short, check_room}
+use Rattle.om3.specs.Document.{levels, Check, FirstCause, lent, check_hours, check_readings, short, table_short}
+use Rattle.om3.specs.Document.{check_room}
 use Rattle.om3.specs.Document.{examine_table, check_window, check_day, check_column, check_depth, record_size, hours_in}
 use Rattle.om3.specs.Document.{table_in, check_header, check_version, check_length, check_cut, check_after, check_place}
 use Rattle.om3.specs.Document.{check_reach, column, day, opened_nodes, finished_nodes, examine_column, answer}

@@ -5,7 +5,8 @@
 use mathlib.Core.{Path.◌≡◌, Logic.◌↔◌}
 use Rattle.std.specs.Prelude.{List, [], ◌∷◌, ℕ, length}
 use Rattle.words.specs.declared.{Refusal.Refusal, Asking.Asking, WindowLine.WindowLine, HourLine.HourLine}
-use Rattle.om3.specs.Document.{P, FirstCause, check_hours, check_window, check_column, hours_in, check_header, check_version}
+use Rattle.om3.specs.Document.{P, FirstCause, check_hours, check_window, check_column, hours_in, check_header}
+use Rattle.om3.specs.Document.{check_version}
 use Rattle.om3.specs.Document.{check_length, check_cut, check_after, check_place, check_lines, check_numbers, asking}
 use Rattle.om3.specs.Document.{refusal_line, printed_of}
 
