@@ -10,7 +10,7 @@ pub returns-then-x : goal.returns-then-x
 returns-then-x c = laws.finished-none _ _ _ _ c.if-x.true
 
 pub visit_table-requires-clause-lent_to : goal.visit_table-requires-clause-lent_to
-visit_table-requires-clause-lent_to c = whole-lent _ _ _ c.requires.table_lent 1
+visit_table-requires-clause-lent_to c = whole-lent _ _ _ c.requires.table_lent _
 
 pub count_of-count-requires : goal.count_of-count-requires
 count_of-count-requires c = omega (arith, c.in-Through.ensures.few _ refl, P-most c.args.n)

@@ -1,5 +1,6 @@
 -- `stopped_at` refuses a level with more nodes than there are hours, and divides the hours by the nodes. Assumes
 -- nothing.
+use Rattle.kit.proofs.{arith}
 use Rattle.stepping.proofs.Lending.{whole-lent}
 use Rattle.columns.proofs.Depths as depths
 use Rattle.columns.proofs.Stopping as laws
@@ -11,13 +12,13 @@ returns-then-d-gt-LARGEST_LEVEL c = laws.too-deep _ _ _ _ _ (depths.over-all _ _
 pub returns-then-p-nodes : goal.returns-then-p-nodes
 returns-then-p-nodes c =
     laws.too-deep _ _ _ _ _
-    (depths.more-nodes _ _ _ _ c.requires.p_value c.power-nodes.ensures c.if-p-nodes.true)
+    (depths.more-nodes _ _ _ _ c.requires.p_value c.power-nodes.ensures (omega arith))
 
 pub stopped_over-requires-clause-lent_to : goal.stopped_over-requires-clause-lent_to
 stopped_over-requires-clause-lent_to c = whole-lent _ _ _ c.requires.table_lent _
 
 pub returns : goal.returns
 returns c =
-    let deep = depths.deep-enough _ _ _ _ c.requires.p_value c.power-nodes.ensures c.if-p-nodes.false in
-    let covered = depths.covered _ _ _ _ c.requires.p_value c.power-nodes.ensures c.if-p-nodes.false in
+    let deep = depths.deep-enough _ _ _ _ c.requires.p_value c.power-nodes.ensures (omega arith) in
+    let covered = depths.covered _ _ _ _ c.requires.p_value c.power-nodes.ensures (omega arith) in
     laws.deep-enough _ _ _ _ _ deep _ covered _ c.stopped_over.ensures
