@@ -17,6 +17,10 @@ fn panicked(_: &PanicInfo) -> ! {
     loop {}
 }
 
+/// What core names for a panic that goes up through its callers. None does here, but some linkers ask for it.
+#[no_mangle]
+pub extern "C" fn rust_eh_personality() {}
+
 fn drawn() -> Result<Option<Summary>, Refusal> {
     let (mut coefficients, mut codes) = ([0; 4], [0; 2]);
     sagivelume::make(3, &[41_200, GAP, 40_900], &mut coefficients, &mut codes)?;
