@@ -4,7 +4,7 @@
 -- in proofs/Clauses: MakeCall and so on. That a call ends is what the kit demands of every function. Assumes
 -- nothing.
 --
---   EachTold   the calls of the boundary, which C and Rust link
+--   EachTold   the calls of the boundary, to which those that C and Rust link hand on (sagivelume_c/proofs/Clauses)
 --   EachCall   these, and the calls behind them, those of the view and those of the printer
 use Rattle.sizes.proofs.Clauses as sizes
 use Rattle.making.proofs.Clauses as making
