@@ -4,26 +4,21 @@
 ghost use Rattle.std.specs.Prelude.{◌≡◌};
 ghost use Rattle.om3.specs.Joined.{joined};
 
-use words::{Answer, Summary};
+use words::Summary;
 
-// The answer of the hours on the left and the answer of those on the right, together. [forms 10]
-pub fn join(left: Answer, right: Answer) -> Answer
+// The answer of the hours on the left and the answer of those on the right, together. Two ranges are joined by the same
+// match in `node`, and inner nodes in `sight`; one over a closure would be no plainer. [forms 10]
+pub fn join(left: Option<Summary>, right: Option<Summary>) -> Option<Summary>
     ensures { result ≡ joined left right }
 {
-    match left {
-        Answer::NoReading => right,
-        Answer::Found(a) => match right {
-            Answer::NoReading => left,
-            Answer::Found(b) => {
-                let first = a.first;
-                let last = b.last;
-                Answer::Found(Summary {
-                    first,
-                    last,
-                    low: node::lesser(a.low, b.low),
-                    high: node::greater(a.high, b.high),
-                })
-            }
-        },
+    match (left, right) {
+        (None, _) => right,
+        (_, None) => left,
+        (Some(a), Some(b)) => Some(Summary {
+            first: a.first,
+            last: b.last,
+            low: a.low.min(b.low),
+            high: a.high.max(b.high),
+        }),
     }
 }

@@ -1,30 +1,53 @@
 -- A finished column, for each answer of the visit: a column without an inside node has no reading, and else the walks
 -- begin at its first and at its last inside node. Assumes nothing.
 use Rattle.kit.proofs.{◌≡◌, refl, sym, ap, ◌∙◌, false, List, [], ◌∷◌, ◌++◌, map, map-append, append-nil, flat_map, ℕ}
-use Rattle.kit.proofs.{◌+◌, ◌-◌, ◌*◌, ◌≤◌, ◌<◌, le_refl, arith, ℤ, leb, le-leb, lt-leb}
-use Rattle.words.specs.declared.{Answer.Answer, Column.Column, Finished.Finished, NodeId.NodeId, Range.Range}
-use Rattle.words.specs.declared.{Refusal.Refusal, Refusal.TheVariants.Unsound}
+use Rattle.kit.proofs.{Err, None, Ok, Option, Result, ◌+◌, ◌-◌, ◌*◌, ◌≤◌, ◌<◌, le_refl, arith, ℤ, leb, le-leb, lt-leb}
+use Rattle.std.specs.Result.{MatchResult}
+use Rattle.words.specs.declared.Summary.{Summary}
+use Rattle.words.specs.Said.{finished_as}
+use Rattle.sight.specs.Seen.{inner_as}
+use Rattle.words.specs.declared.{Column.Column, Finished.Finished, NodeId.NodeId, Range.Range, Refusal.Refusal}
+use Rattle.words.specs.declared.{Refusal.TheVariants.Unsound}
 use Rattle.om3.specs.Document.{last_of, levels, Node, InTree, number, Table, lent, Check, passes, and_then, in_order}
 use Rattle.om3.specs.Document.{answer_by, sound_node, examine, examine_node, examine_nodes, examine_root, opened_nodes}
 use Rattle.om3.specs.Document.{count_at, range_over, examine_column, nodes_of, first_walk, last_walk, inside_nodes}
-use Rattle.om3.specs.Document.{walks_from}
-use Rattle.om3.specs.Document.{answer, count, finished_nodes}
+use Rattle.om3.specs.Document.{walks_from, answer, count, finished_nodes}
 use Rattle.laws.proofs.{Examined.then-assoc, Examined.in-order-append, Listed.All, NeverRefused.last-in}
 use Rattle.laws.proofs.{WithoutHours.none_inside, WithoutHours.none-count}
 use Rattle.laws.proofs.KeptNodes.{NonEmpty, inside-inner, inside-non-empty}
 use Rattle.stepping.specs.Nodes.{reached_of, At, Below, StopsAt}
 use Rattle.stepping.specs.declared.Reached.{Reached}
 use Rattle.sight.specs.{Seen.inner_over, Seen.table_seen, declared.Inner.Inner, declared.Seen.Seen}
-use Rattle.visiting.specs.{Visiting.TableVisited, declared.Visited.Visited}
+use Rattle.visiting.specs.{Visiting.TableVisited}
 use Rattle.columns.specs.Drawing.{Answers, walks_check, found_of, FoundFrom, finished_answer, FinishedOver}
 
-pub not-answered : {why : Refusal} {a : Answer} {m : ℕ} → Finished.Refused why ≡ Finished.Answered a m → ⊥
+-- What is told of an unsound node: no value, and the refusal that names it.
+abbrev pub RefusedBy : {T : Type 0} → Result T NodeId → Refusal → Type 0
+RefusedBy r why = MatchResult r (λ x. ⊥) (λ i. why ≡ Unsound i)
+
+-- The same as `map_err` tells it, and a value that it leaves as it is.
+pub refused-by : {T : Type 0} (r : Result T NodeId) (why : Refusal)
+    → MatchResult r (λ (x : T). ◌≡◌ {A = Result T Refusal} (Err why) (Ok x)) (λ i. why ≡ Unsound i) → RefusedBy r why
+refused-by (Ok x) why e = let z : ◌≡◌ {A = ℕ} 0 1 = cc in omega arith
+refused-by (Err i) why e = e
+
+pub left-by : {T : Type 0} (r : Result T NodeId) (y : T)
+    → MatchResult r (λ (x : T). ◌≡◌ {A = Result T Refusal} (Ok y) (Ok x)) (λ i. ⊥) → r ≡ Ok y
+left-by (Ok x) y e = cc
+left-by (Err i) y e = absurd e
+
+pub not-answered : {why : Refusal} {a : Option Summary} {m : ℕ} → Err why ≡ finished_as a m → ⊥
 not-answered e = let z : ◌≡◌ {A = ℕ} 0 1 = cc in omega arith
 
-none-small : {m : ℕ} → Answers (Finished.Answered Answer.NoReading m)
-none-small = record { small = λ a m e. let z : Answer.NoReading ≡ a = cc in rw (sym z) tt }
+pub answer_same : {a b : Option Summary} {m k : ℕ} → finished_as a m ≡ finished_as b k → a ≡ b
+answer_same {a} {b} {m} {k} e =
+    let same : ◌≡◌ {A = Finished} (record { answer = a; count = m }) (record { answer = b; count = k }) = cc in
+    ap (λ (f : Finished). f.answer) same
 
-pub refused-small : {why : Refusal} → Answers (Finished.Refused why)
+none-small : {m : ℕ} → Answers (finished_as None m)
+none-small = record { small = λ a m e. rw (sym (answer_same e)) tt }
+
+pub refused-small : {why : Refusal} → Answers (Err why)
 refused-small = record { small = λ a m e. absurd (not-answered e) }
 
 -- Nodes examined after others.
@@ -52,11 +75,11 @@ placed t v i at e =
     })
 
 -- The nodes of an inner range, from what the visit says of them.
-nothing-list : (l : ℕ) (t : Table) (vs : List Node) → Inner.Nothing ≡ inner_over l t vs → vs ≡ []
+nothing-list : (l : ℕ) (t : Table) (vs : List Node) → None ≡ inner_over l t vs → vs ≡ []
 nothing-list l t [] e = refl
 nothing-list l t (v ∷ vs) e = let z : ◌≡◌ {A = ℕ} 0 1 = cc in absurd (omega arith)
 
-pub record NodesOf (l : ℕ) (t : Table) (x : Column) (range : Range) (first last : Reached) : Type 0 where
+pub record NodesOf (l : ℕ) (t : Table) (x : Column) (range : Option Range) (first last : Reached) : Type 0 where
   pub node : Node
   pub further : List Node
   pub list : inside_nodes l t x ≡ node ∷ further
@@ -64,14 +87,28 @@ pub record NodesOf (l : ℕ) (t : Table) (x : Column) (range : Range) (first las
   pub begins : first ≡ reached_of l t node
   pub ends : last ≡ reached_of l t (last_of node further)
 
-nodes-list : (l : ℕ) (t : Table) (x : Column) (range : Range) (first last : Reached) (vs : List Node)
-    → inside_nodes l t x ≡ vs → Inner.Nodes range first last ≡ inner_over l t vs → NodesOf l t x range first last
+nodes-list : (l : ℕ) (t : Table) (x : Column) (range : Option Range) (first last : Reached) (vs : List Node)
+    → inside_nodes l t x ≡ vs → inner_as range first last ≡ inner_over l t vs → NodesOf l t x range first last
 nodes-list l t x range first last [] h e = let z : ◌≡◌ {A = ℕ} 0 1 = cc in absurd (omega arith)
 nodes-list l t x range first last (v ∷ vs) h e =
-    record { node = v; further = vs; list = h; over = cc; begins = cc; ends = cc }
+    let met : Inner = record { range = range; first = first; last = last } in
+    let seen : Inner = record {
+      range = range_over l t (v ∷ vs);
+      first = reached_of l t v;
+      last = reached_of l t (last_of v vs);
+    } in
+    let same : met ≡ seen = cc in
+    record {
+      node = v;
+      further = vs;
+      list = h;
+      over = ap (λ (i : Inner). i.range) same;
+      begins = ap (λ (i : Inner). i.first) same;
+      ends = ap (λ (i : Inner). i.last) same;
+    }
 
 -- The first and the last of them, at their places.
-module _ (n : ℕ) (t : Table) (x : Column) (range : Range) (first last : Reached)
+module _ (n : ℕ) (t : Table) (x : Column) (range : Option Range) (first last : Reached)
     (N : NodesOf (levels n) t x range first last) where
   all_held : All (NonEmpty (levels n) t) (N.node ∷ N.further)
   all_held = rw N.list at (inside-non-empty (levels n) t x)
@@ -92,7 +129,7 @@ module _ (n : ℕ) (cs : List ℤ) (ks : List ℕ) (x : Column) where
   T = lent cs ks
 
   -- No hour: the table is not examined.
-  pub finished-none : x.upto.0 ≤ x.from.0 → FinishedOver n cs ks x (Finished.Answered Answer.NoReading 0)
+  pub finished-none : x.upto.0 ≤ x.from.0 → FinishedOver n cs ks x (finished_as None 0)
   finished-none h =
       let none = le-leb x.upto.0 x.from.0 h in
       record { answers = none-small; answer = rw (none, none_inside l T x h, none-count l T x h l) }
@@ -106,17 +143,18 @@ module _ (n : ℕ) (cs : List ℤ) (ks : List ℕ) (x : Column) where
         let z : l - l ≡ 0 = omega arith in
         record { deep = le_refl l; stops = rw z; some = some }
 
-    pub finished-unsound : (i : NodeId) → TableVisited n cs ks x 1 (Visited.Unsound i)
-        → FinishedOver n cs ks x (Finished.Refused (Unsound i))
-    finished-unsound i W =
+    pub finished-unsound : (r : Result Seen NodeId) → TableVisited n cs ks x 1 r → (why : Refusal) → RefusedBy r why
+        → FinishedOver n cs ks x (Err why)
+    finished-unsound (Ok s) W why told = absurd told
+    finished-unsound (Err i) W why told =
         let more = flat_map (nodes_of l) (walks_from l T (inside_nodes l T x)) in
         record {
           answers = refused-small;
-          answer = rw (hours, examine-append l n T (opened_nodes l T x l) more, sym (W.examined l asked));
+          answer = rw (told, hours, examine-append l n T (opened_nodes l T x l) more, sym (W.examined l asked));
         }
 
     -- The visit is through.
-    module _ (s : Seen) (W : TableVisited n cs ks x 1 (Visited.Through s)) where
+    module _ (s : Seen) (W : TableVisited n cs ks x 1 (Ok s)) where
       opened-pass : examine l n T (opened_nodes l T x l) ≡ passes
       opened-pass = sym (W.examined l asked)
 
@@ -126,12 +164,12 @@ module _ (n : ℕ) (cs : List ℤ) (ks : List ℕ) (x : Column) where
       inner-seen : s.inner ≡ inner_over l T (inside_nodes l T x)
       inner-seen = ap (λ (u : Seen). u.inner) seen ∙ ap (inner_over l T) (sym (inside-inner l T x))
 
-      pub inner-nodes : (range : Range) (first last : Reached) → s.inner ≡ Inner.Nodes range first last
+      pub inner-nodes : (range : Option Range) (first last : Reached) → s.inner ≡ inner_as range first last
           → NodesOf l T x range first last
       inner-nodes range first last e =
           nodes-list l T x range first last (inside_nodes l T x) refl (sym e ∙ inner-seen)
 
-      pub nodes-below : (range : Range) (first last : Reached) → s.inner ≡ Inner.Nodes range first last
+      pub nodes-below : (range : Option Range) (first last : Reached) → s.inner ≡ inner_as range first last
           → Below 1 cs ks first × Below 1 cs ks last
       nodes-below range first last e = rw e at (W.below s refl)
 
@@ -144,8 +182,8 @@ module _ (n : ℕ) (cs : List ℤ) (ks : List ℕ) (x : Column) where
           ≡ examine_nodes l n T (flat_map (nodes_of l) (walks_from l T (inside_nodes l T x)))
       walks-left = rw (hours, examine-append l n T (opened_nodes l T x l) _, opened-pass)
 
-      pub finished-nothing : s.inner ≡ Inner.Nothing
-          → FinishedOver n cs ks x (Finished.Answered Answer.NoReading (1 + 2 * s.opened))
+      pub finished-nothing : s.inner ≡ None
+          → FinishedOver n cs ks x (finished_as None (1 + 2 * s.opened))
       unfolding in_order flat_map
       finished-nothing e =
           let none = nothing-list l T (inside_nodes l T x) (sym e ∙ inner-seen) in
@@ -170,14 +208,15 @@ module _ (n : ℕ) (cs : List ℤ) (ks : List ℕ) (x : Column) where
         count-all : count l T x ≡ 1 + 2 * s.opened + (l - u.level) + (l - v.level)
         count-all = rw list (omega (arith, count-is))
 
-        found-is : (range : Range) → range ≡ range_over l T (u ∷ us)
-            → answer_by Finished.Refused (walks_check l n T u v)
-            (Finished.Answered (found_of l T range u v) (1 + 2 * s.opened + (l - u.level) + (l - v.level)))
-            ≡ answer_by Finished.Refused (examine_column l T x n (finished_nodes l T x)) (finished_answer n T x)
+        found-is : (range : Option Range) → range ≡ range_over l T (u ∷ us)
+            → answer_by Err (walks_check l n T u v)
+            (finished_as (found_of l T range u v) (1 + 2 * s.opened + (l - u.level) + (l - v.level)))
+            ≡ answer_by Err (examine_column l T x n (finished_nodes l T x)) (finished_answer n T x)
         found-is range e = rw (e, walks-checked, sym answer-is, sym count-all)
 
-      pub finished-nodes : (range : Range) (first last : Reached) → s.inner ≡ Inner.Nodes range first last
-          → (r : Finished) → FoundFrom n cs ks range first last (1 + 2 * s.opened) r → FinishedOver n cs ks x r
+      pub finished-nodes : (range : Option Range) (first last : Reached) → s.inner ≡ inner_as range first last
+          → (r : Result Finished Refusal) → FoundFrom n cs ks range first last (1 + 2 * s.opened) r
+          → FinishedOver n cs ks x r
       finished-nodes range first last e r F =
           let N = inner-nodes range first last e in
           let u = N.node in

@@ -1,14 +1,16 @@
 -- A column stopped at a depth, for each answer of the visit. Assumes nothing.
-use Rattle.kit.proofs.{◌≡◌, refl, sym, List, [], ◌∷◌, ℕ, ◌+◌, ◌-◌, ◌*◌, ◌^◌, ◌≤◌, ◌<◌, ℤ, le-leb, lt-leb, lt-ltb}
-use Rattle.kit.proofs.{le-ltb}
-use Rattle.words.specs.declared.{Column.Column, NodeId.NodeId, Range.TheVariants.Empty, Refusal.TheVariants.Unsound}
-use Rattle.words.specs.declared.{Refusal.TheVariants.TooDeep, Stopped.Stopped}
+use Rattle.kit.proofs.{◌≡◌, refl, sym, List, [], ◌∷◌, ℕ, ◌+◌, ◌-◌, ◌*◌, ◌^◌, ◌≤◌, ◌<◌, ℤ, le-leb, lt-leb, lt-ltb, None}
+use Rattle.kit.proofs.{Err, Ok, Result, le-ltb}
+use Rattle.words.specs.declared.Refusal.{Refusal}
+use Rattle.words.specs.Said.{stopped_as}
+use Rattle.words.specs.declared.{Column.Column, Refusal.TheVariants.TooDeep}
+use Rattle.words.specs.declared.{Stopped.Stopped}
 use Rattle.om3.specs.Document.{levels, Node, Table, lent, in_order, opened_nodes, count_at, range_over, examine_column}
 use Rattle.laws.proofs.{Examined.then-passes}
 use Rattle.laws.proofs.WithoutHours.{none-outer, none-inner, none-count}
 use Rattle.stepping.specs.Nodes.{StopsAt}
 use Rattle.sight.specs.{Seen.inner_over, declared.Seen.Seen}
-use Rattle.visiting.specs.{Visiting.TableVisited, declared.Visited.Visited}
+use Rattle.visiting.specs.{Visiting.TableVisited}
 use Rattle.columns.specs.Drawing.{inner_range, StoppedOver, StoppedAt}
 
 -- The range of inner nodes is the range over them.
@@ -25,7 +27,7 @@ module _ (n : ℕ) (cs : List ℤ) (ks : List ℕ) (x : Column) (stop : ℕ) whe
   T = lent cs ks
 
   -- No hour: the table is not examined.
-  pub stopped_none : x.upto.0 ≤ x.from.0 → StoppedOver n cs ks x stop (Stopped.Ranges Empty Empty 0)
+  pub stopped_none : x.upto.0 ≤ x.from.0 → StoppedOver n cs ks x stop (stopped_as None None 0)
   stopped_none h =
       let none = le-leb x.upto.0 x.from.0 h in
       record {
@@ -36,16 +38,8 @@ module _ (n : ℕ) (cs : List ℤ) (ks : List ℕ) (x : Column) (stop : ℕ) whe
     asked : (d : ℕ) → d ≤ l → stop ≡ 2 ^ (l - d) → StopsAt l d x stop
     asked d deep stops = record { deep = deep; stops = stops; some = some }
 
-    pub stopped-unsound : (i : NodeId) → TableVisited n cs ks x stop (Visited.Unsound i)
-        → StoppedOver n cs ks x stop (Stopped.Refused (Unsound i))
-    stopped-unsound i W =
-        record {
-          answer = λ d deep stops.
-              rw (lt-leb x.upto.0 x.from.0 some, sym (W.examined d (asked d deep stops)));
-        }
-
-    pub stopped-seen : (s : Seen) → TableVisited n cs ks x stop (Visited.Through s)
-        → StoppedOver n cs ks x stop (Stopped.Ranges s.outer (inner_range s.inner) (1 + 2 * s.opened))
+    pub stopped-seen : (s : Seen) → TableVisited n cs ks x stop (Ok s)
+        → StoppedOver n cs ks x stop (stopped_as s.outer (inner_range s.inner) (1 + 2 * s.opened))
     unfolding count_at
     stopped-seen s W =
         record {
@@ -57,11 +51,11 @@ module _ (n : ℕ) (cs : List ℤ) (ks : List ℕ) (x : Column) (stop : ℕ) whe
 
 -- Check 7, and then the column at that depth.
 module _ (n : ℕ) (cs : List ℤ) (ks : List ℕ) (x : Column) (d : ℕ) where
-  pub too-deep : levels n < d → StoppedAt n cs ks x d (Stopped.Refused TooDeep)
+  pub too-deep : levels n < d → StoppedAt n cs ks x d (Err TooDeep)
   unfolding in_order
   too-deep h = record { answer = rw (lt-ltb (levels n) d h) }
 
-  pub deep-enough : d ≤ levels n → (stop : ℕ) → stop ≡ 2 ^ (levels n - d) → (r : Stopped)
+  pub deep-enough : d ≤ levels n → (stop : ℕ) → stop ≡ 2 ^ (levels n - d) → (r : Result Stopped Refusal)
       → StoppedOver n cs ks x stop r → StoppedAt n cs ks x d r
   unfolding in_order
   deep-enough h stop e r S =

@@ -1,7 +1,7 @@
 -- The difference of two readings. Assumes nothing.
-use Rattle.kit.proofs.{◌≡◌, ℤ, ◌-ℤ◌, w32, SFits, to_z, of_z, to_z-of_z}
+use Rattle.kit.proofs.{◌≡◌, ℤ, ◌-ℤ◌, w32, SFits, to_z, of_z, to_z-of_z, None, Option, Some}
+use Rattle.words.specs.declared.Summary.{Summary}
 use Rattle.signed.proofs.{signed}
-use Rattle.words.specs.{declared.Answer.Answer}
 use Rattle.om3.specs.Document.{change_of, added_by}
 use Rattle.walking.specs.Walking.{Small}
 use Rattle.columns.specs.Drawing.{SmallAnswer}
@@ -25,10 +25,10 @@ module _ (z y : ℤ) (p : Small z) (q : Small y) where
   change-is = rw read_back (to_z-of_z difference-fits)
 
 -- Whatever small answers the hours before a day and the day have, the change is a number of 32 bits.
-pub change-small : (earlier own : Answer) → SmallAnswer earlier → SmallAnswer own
+pub change-small : (earlier own : Option Summary) → SmallAnswer earlier → SmallAnswer own
     → SFits w32 (added_by (change_of earlier own))
-change-small earlier Answer.NoReading p q = omega signed
-change-small Answer.NoReading (Answer.Found own) p q =
+change-small earlier None p q = omega signed
+change-small None (Some own) p q =
     difference-fits own.last.grams own.first.grams q.1 q.0
-change-small (Answer.Found earlier) (Answer.Found own) p q =
+change-small (Some earlier) (Some own) p q =
     difference-fits own.last.grams earlier.last.grams q.1 p.1

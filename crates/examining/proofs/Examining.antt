@@ -1,34 +1,33 @@
 -- What the examination below a node promises, at a pair and at a node of two halves, for each of its answers. Assumes
 -- nothing.
-use Rattle.kit.proofs.{◌≡◌, refl, sym, ap, ◌∙◌, Bool, true, false, ◌&&◌, List, map, map-append, ℕ, suc, ◌+◌, ◌-◌, ◌*◌}
-use Rattle.kit.proofs.{◌/◌, ◌^◌, ◌≤◌, ◌<◌, arith, ℤ, pos, get_or, mag}
+use Rattle.kit.proofs.{◌≡◌, refl, sym, ap, ◌∙◌, Bool, ◌&&◌, List, map, map-append, ℕ, suc, ◌+◌, ◌-◌, ◌*◌}
+use Rattle.kit.proofs.{Err, None, Ok, Option, Result, ◌/◌, ◌^◌, ◌≤◌, ◌<◌, arith, ℤ, pos, get_or, mag}
+use Rattle.node.specs.Steps.{halves_as}
 use Rattle.signed.proofs.{reads-back}
 use Rattle.words.specs.{declared.NodeId.NodeId, declared.Range.Range, Readings}
 use Rattle.om3.specs.Document.{hour, Node, number, left, right, start, Table, lent, left_half, right_half}
 use Rattle.om3.specs.Document.{first_of_pair, second_of_pair, reached, Check, and_then, in_order, sound_details}
-use Rattle.om3.specs.Document.{sound_code, gap_from}
-use Rattle.om3.specs.Document.{sound_node, nodes_below, examine_node, examine_nodes}
-use Rattle.node.specs.{Located.Located, Steps.halves_of, Steps.pair_of}
+use Rattle.om3.specs.Document.{sound_code, gap_from, sound_node, nodes_below, examine_node, examine_nodes}
+use Rattle.node.specs.{Located.Located, Steps.halves_of}
 use Rattle.laws.proofs.Nodes.{pair-yes, pair-no, pair-half, start-hour}
 use Rattle.node.proofs.Located.{above-hours, above-pairs, at_pair, pair-width, left-located, right-located}
 use Rattle.node.proofs.Told.{back}
 use Rattle.laws.proofs.{Reached.reached-left, Reached.reached-right, SoundDetails.details, Examined.in-order-append}
 use Rattle.laws.proofs.{Examined.then-passes}
 use Rattle.node.specs.declared.Halves.{Halves}
-use Rattle.examining.specs.declared.Verdict.{Verdict}
 use Rattle.examining.specs.Examining.{check_of, pair_at, Examined, PairExamined, PairsExamined}
 use Rattle.examining.proofs.Answers.{Stepped, stepped, not-stepped}
 
 -- The halves of a sound node that is not a pair are ranges of readings.
-halves-readings : (r : Range) (d e : ℤ) → Readings r → {a b : Range} → halves_of r d e ≡ Halves.Sound a b
+halves-readings : (r : Option Range) (d e : ℤ) → Readings r → {a b : Option Range} → halves_of r d e ≡ halves_as a b
     → Readings a × Readings b
 halves-readings r d e p h =
     let s = stepped (sound_details r d e) (left_half r d e) (right_half r d e) h in
     let halves = (details r d e p s.is_sound).halves in
     (rw s.first halves.readings-left, rw s.second halves.readings-right)
 
-module _ (r : Range) (cs : List ℤ) (i : ℕ) (p : Readings r) {a b : Range}
-    (h : halves_of r (get_or cs (2 * i) (pos 0)) (get_or cs (2 * i + 1) (pos 0)) ≡ Halves.Sound a b) where
+module _ (r : Option Range) (cs : List ℤ) (i : ℕ) (p : Readings r) {a b : Option Range}
+    (h : halves_of r (get_or cs (2 * i) (pos 0)) (get_or cs (2 * i + 1) (pos 0)) ≡ halves_as a b) where
   pub left-readings : Readings a
   left-readings = (halves-readings r (get_or cs (2 * i) (pos 0)) (get_or cs (2 * i + 1) (pos 0)) p h).0
 
@@ -36,14 +35,15 @@ module _ (r : Range) (cs : List ℤ) (i : ℕ) (p : Readings r) {a b : Range}
   right-readings = (halves-readings r (get_or cs (2 * i) (pos 0)) (get_or cs (2 * i + 1) (pos 0)) p h).1
 
 -- The step down from node i, for details that were read back from their bits.
-pub details-told : (r : Range) (cs : List ℤ) (i : ℕ) {x : Halves}
+pub details-told : (r : Option Range) (cs : List ℤ) (i : ℕ) {x : Option Halves}
     → (let d = get_or cs (2 * i) (pos 0) in let e = get_or cs (2 * i + 1) (pos 0) in
     x ≡ halves_of r (back d) (back e) → mag d < 2 ^ 31 → mag e < 2 ^ 31 → x ≡ halves_of r d e)
 details-told r cs i s dm em =
     rw (reads-back (get_or cs (2 * i) (pos 0)) dm, reads-back (get_or cs (2 * i + 1) (pos 0)) em) at s
 
 -- What a step down answered: its halves are ranges of readings.
-module _ {x : Halves} (r : Range) (d e : ℤ) {a b : Range} (is : x ≡ Halves.Sound a b) (s : x ≡ halves_of r d e)
+module _ {x : Option Halves} (r : Option Range) (d e : ℤ) {a b : Option Range} (is : x ≡ halves_as a b)
+    (s : x ≡ halves_of r d e)
     (p : Readings r) where
   pub left-told : Readings a
   left-told = (halves-readings r d e p (sym s ∙ is)).0
@@ -65,8 +65,8 @@ module _ {l : ℕ} {v : Node} {i f w : ℕ} (at : Located l v i f w) (two : 2 �
   pub code-index : (number v).0 - 2 ^ l / 2 ≡ f / 2
   code-index = omega (arith, pair-half l v (at_pair at two four), first-index)
 
--- The answers of a pair's step: its code does not fit, an hour from n on comes out as a reading, or it is sound.
-module _ (n : ℕ) (ks : List ℕ) (f : ℕ) (range : Range) where
+-- Whether a pair is sound: its code fits, and no hour from n on comes out as a reading.
+module _ (n : ℕ) (ks : List ℕ) (f : ℕ) (range : Option Range) where
   abbrev code : ℕ
   code = get_or ks (f / 2) 0
 
@@ -75,30 +75,7 @@ module _ (n : ℕ) (ks : List ℕ) (f : ℕ) (range : Range) where
       sound_code range code && gap_from n (hour f) (first_of_pair range code)
       && gap_from n (hour (f + 1)) (second_of_pair range code)
 
-  module _ {x : Halves} where
-    pub code-unsound : x ≡ Halves.Unsound → x ≡ pair_of range code → Halves.Unsound ≡ pair_at n ks f range
-    code-unsound is s =
-        rw (not-stepped (sound_code range code) (first_of_pair range code) (second_of_pair range code) (sym s ∙ is))
-
-    module _ (a b : Range) (is : x ≡ Halves.Sound a b) (s : x ≡ pair_of range code) {p : Bool}
-        (first : p ≡ gap_from n (hour f) a) where
-      abbrev coded : Stepped (sound_code range code) (first_of_pair range code) (second_of_pair range code) a b
-      coded = stepped (sound_code range code) (first_of_pair range code) (second_of_pair range code) (sym s ∙ is)
-
-      pub first-late : p ≡ false → Halves.Unsound ≡ pair_at n ks f range
-      first-late late = rw (coded.is_sound, rw coded.first at (sym first ∙ late))
-
-      module _ {q : Bool} (yes : p ≡ true) (second : q ≡ gap_from n (hour (f + 1)) b) where
-        pub second-late : q ≡ false → Halves.Unsound ≡ pair_at n ks f range
-        second-late late =
-            rw (coded.is_sound, rw coded.first at (sym first ∙ yes), rw coded.second at (sym second ∙ late))
-
-        pub both_out : q ≡ true → Halves.Sound a b ≡ pair_at n ks f range
-        both_out out =
-            rw (coded.is_sound, rw coded.first at (sym first ∙ yes), rw coded.second at (sym second ∙ out))
-            (rw (coded.first, coded.second))
-
-module _ (n : ℕ) (cs : List ℤ) (ks : List ℕ) (i : NodeId) (f w : ℕ) (range : Range) where
+module _ (n : ℕ) (cs : List ℤ) (ks : List ℕ) (i : NodeId) (f w : ℕ) (range : Option Range) where
   abbrev T : Table
   T = lent cs ks
 
@@ -119,10 +96,10 @@ module _ (n : ℕ) (cs : List ℤ) (ks : List ℕ) (i : NodeId) (f w : ℕ) (ran
       unfolding nodes_below in_order
       pair-alone = rw (one-level at two four, sound-pair, same_number i at) (then-passes (examine_node i is_sound))
 
-    pair-examined : (r : Verdict) → check_of r ≡ examine_node i is_sound → Examined n cs ks i f w range r
+    pair-examined : (r : Result Unit NodeId) → check_of r ≡ examine_node i is_sound → Examined n cs ks i f w range r
     pair-examined r e = record { below = λ l v at g. e ∙ sym (pair-alone l v at g) }
 
-    pub as-pair : (r : Verdict) → PairExamined n ks i f range r → Examined n cs ks i f w range r
+    pub as-pair : (r : Result Unit NodeId) → PairExamined n ks i f range r → Examined n cs ks i f w range r
     as-pair r E = E.pair cs w two four
 
   -- At a node of two halves.
@@ -156,13 +133,14 @@ module _ (n : ℕ) (cs : List ℤ) (ks : List ℕ) (i : NodeId) (f w : ℕ) (ran
           (ap in_order (map-append (λ u. examine_node (number u) (sound_node l n T u)) L R)
           ∙ in-order-append (map (λ u. examine_node (number u) (sound_node l n T u)) L) _))
 
-    pub details-unsound : {x : Halves} → x ≡ Halves.Unsound → x ≡ halves_of range d e
-        → Examined n cs ks i f w range (Verdict.Unsound i)
+    pub details-unsound : {x : Option Halves} → x ≡ None → x ≡ halves_of range d e
+        → Examined n cs ks i f w range (Err i)
     details-unsound is s =
         let u = not-stepped (sound_details range d e) (left_half range d e) (right_half range d e) (sym s ∙ is) in
         record { below = λ l v at g. sym (node-then l v at g ∙ rw u) }
 
-    module _ {x : Halves} (a b : Range) (is : x ≡ Halves.Sound a b) (s : x ≡ halves_of range d e) (r : Verdict)
+    module _ {x : Option Halves} (a b : Option Range) (is : x ≡ halves_as a b) (s : x ≡ halves_of range d e)
+        (r : Result Unit NodeId)
         (L : Examined n cs ks (record { 0 = 2 * i.0 }) f (w / 2) a r) where
       abbrev H : Stepped (sound_details range d e) (left_half range d e) (right_half range d e) a b
       H = stepped (sound_details range d e) (left_half range d e) (right_half range d e) (sym s ∙ is)
@@ -182,10 +160,10 @@ module _ (n : ℕ) (cs : List ℤ) (ks : List ℕ) (i : NodeId) (f w : ℕ) (ran
             sym (node-then l v at g
             ∙ rw (H.is_sound, ← L.below l (left v) (left-located at two) left-reached))
 
-      pub left-unsound : (k : NodeId) → r ≡ Verdict.Unsound k → Examined n cs ks i f w range (Verdict.Unsound k)
+      pub left-unsound : (k : NodeId) → r ≡ Err k → Examined n cs ks i f w range (Err k)
       left-unsound k z = record { below = λ l v at g. rw z at (halves-then l v at g) }
 
-      pub then-right : r ≡ Verdict.Sound → (q : Verdict)
+      pub then-right : r ≡ Ok tt → (q : Result Unit NodeId)
           → Examined n cs ks (record { 0 = 2 * i.0 + 1 }) (f + w / 2) (w / 2) b q → Examined n cs ks i f w range q
       then-right z q R =
           record {
@@ -194,14 +172,15 @@ module _ (n : ℕ) (cs : List ℤ) (ks : List ℕ) (i : NodeId) (f w : ℕ) (ran
           }
 
     -- The halves are pairs.
-    module _ {x : Halves} (a b : Range) (is : x ≡ Halves.Sound a b) (s : x ≡ halves_of range d e) (eight : w < 8) where
+    module _ {x : Option Halves} (a b : Option Range) (is : x ≡ halves_as a b) (s : x ≡ halves_of range d e)
+        (eight : w < 8) where
       abbrev left_pair : NodeId
       left_pair = record { 0 = 2 * i.0 }
 
       abbrev right_pair : NodeId
       right_pair = record { 0 = 2 * i.0 + 1 }
 
-      right-pair : (q : Verdict) → PairExamined n ks right_pair (f + 2) b q
+      right-pair : (q : Result Unit NodeId) → PairExamined n ks right_pair (f + 2) b q
           → Examined n cs ks right_pair (f + w / 2) (w / 2) b q
       right-pair q E =
           record {
@@ -210,55 +189,32 @@ module _ (n : ℕ) (cs : List ℤ) (ks : List ℕ) (i : NodeId) (f w : ℕ) (ran
                 (E.pair cs 2 (omega arith) (omega arith)).below l v (rw half at at);
           }
 
-      pub pairs-examined : (q : Verdict) → PairsExamined n ks left_pair f a b q → Examined n cs ks i f w range q
+      pub pairs-examined : (q : Result Unit NodeId) → PairsExamined n ks left_pair f a b q
+          → Examined n cs ks i f w range q
       pairs-examined q E =
           by E.found (E.first.pair cs (w / 2) (omega arith) (omega arith)) E.refused E.second
         where
-          by : (r : Verdict) → Examined n cs ks left_pair f (w / 2) a r
-              → ((k : NodeId) → r ≡ Verdict.Unsound k → q ≡ Verdict.Unsound k)
-              → (r ≡ Verdict.Sound → PairExamined n ks right_pair (f + 2) b q) → Examined n cs ks i f w range q
-          by Verdict.Sound L kept further = then-right a b is s Verdict.Sound L refl q (right-pair q (further refl))
-          by (Verdict.Unsound k) L kept further = rw (kept k refl) (left-unsound a b is s (Verdict.Unsound k) L k refl)
+          by : (r : Result Unit NodeId) → Examined n cs ks left_pair f (w / 2) a r
+              → ((k : NodeId) → r ≡ Err k → q ≡ Err k)
+              → (r ≡ Ok tt → PairExamined n ks right_pair (f + 2) b q) → Examined n cs ks i f w range q
+          by (Ok u) L kept further = then-right a b is s (Ok tt) L refl q (right-pair q (further refl))
+          by (Err k) L kept further = rw (kept k refl) (left-unsound a b is s (Err k) L k refl)
 
 -- The two answers of a pair.
-module _ (n : ℕ) (ks : List ℕ) (i : NodeId) (f : ℕ) (range : Range) {x : Halves} (s : x ≡ pair_at n ks f range) where
-  abbrev first : Range
+module _ (n : ℕ) (ks : List ℕ) (i : NodeId) (f : ℕ) (range : Option Range) {x : Option Halves}
+    (s : x ≡ pair_at n ks f range) where
+  abbrev first : Option Range
   first = first_of_pair range (get_or ks (f / 2) 0)
 
-  abbrev second : Range
+  abbrev second : Option Range
   second = second_of_pair range (get_or ks (f / 2) 0)
 
-  pub pair-unsound : x ≡ Halves.Unsound → PairExamined n ks i f range (Verdict.Unsound i)
+  pub pair-unsound : x ≡ None → PairExamined n ks i f range (Err i)
   pair-unsound is =
       let u = not-stepped (pair_is_sound n ks f range) first second (sym s ∙ is) in
-      record { pair = λ cs w two four. pair-examined n cs ks i f w range two four (Verdict.Unsound i) (rw u) }
+      record { pair = λ cs w two four. pair-examined n cs ks i f w range two four (Err i) (rw u) }
 
-  pub pair-sound : (a b : Range) → x ≡ Halves.Sound a b → PairExamined n ks i f range Verdict.Sound
+  pub pair-sound : (a b : Option Range) → x ≡ halves_as a b → PairExamined n ks i f range (Ok tt)
   pair-sound a b is =
       let u = (stepped (pair_is_sound n ks f range) first second (sym s ∙ is)).is_sound in
-      record { pair = λ cs w two four. pair-examined n cs ks i f w range two four Verdict.Sound (rw u) }
-
--- The two answers of two neighbouring pairs.
-module _ (n : ℕ) (ks : List ℕ) (i : NodeId) (f : ℕ) (one two : Range) (r : Verdict)
-    (E : PairExamined n ks i f one r) where
-  pub first-refused : (k : NodeId) → r ≡ Verdict.Unsound k → PairsExamined n ks i f one two (Verdict.Unsound k)
-  first-refused k z =
-      record {
-        found = r;
-        first = E;
-        refused = λ j y. sym z ∙ y;
-        second = λ y.
-            let clash : Verdict.Sound ≡ Verdict.Unsound k = sym y ∙ z in
-            let no : ◌≡◌ {A = ℕ} 0 1 = cc in
-            absurd (omega arith);
-      }
-
-  pub second-examined : r ≡ Verdict.Sound → (q : Verdict) → PairExamined n ks (record { 0 = i.0 + 1 }) (f + 2) two q
-      → PairsExamined n ks i f one two q
-  second-examined z q S =
-      record {
-        found = r;
-        first = E;
-        refused = λ k y. let clash : Verdict.Sound ≡ Verdict.Unsound k = sym z ∙ y in cc;
-        second = λ y. S;
-      }
+      record { pair = λ cs w two four. pair-examined n cs ks i f w range two four (Ok tt) (rw u) }

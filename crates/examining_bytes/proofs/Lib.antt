@@ -1,3 +1,2 @@
 -- What the proofs of this crate rest on.
 pub mod Unpacked
-pub mod Rooted

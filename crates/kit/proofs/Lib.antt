@@ -5,6 +5,8 @@
 pub use mathlib.Core.Path.{◌≡◌, refl, sym, ◌∙◌, ap, ap₂, subst, fun_ext}
 pub use mathlib.Core.Bool.{Bool, true, false, not, ◌&&◌, ◌||◌, cond, and-true, and-false, and_assoc}
 pub use mathlib.Core.Logic.{◌↔◌, ◌⊎◌, inl, inr, ⊎_elim}
+-- A value or none, and a value or why there is none.
+pub use Rattle.std.specs.Prelude.{Option, None, Some, Result, Ok, Err}
 -- Lists.
 pub use mathlib.Core.List.{List, [], ◌∷◌, ◌++◌, map, foldl, foldr, tail}
 pub use mathlib.Core.List.{append-nil, append_assoc, map-append, foldl-append}

@@ -1,8 +1,7 @@
 -- Two tables that agree at the places of a table of l levels reach the same ranges, and one is sound if the other is:
 -- what lies beyond is not looked at. Assumes nothing.
-use Rattle.kit.proofs.{◌≡◌, refl, ◌∙◌, true, cond, ⊎_elim, ℕ, zero, suc, ◌+◌, ◌-◌, ◌*◌, ◌/◌, ◌%◌, ◌^◌, ◌≤◌, ◌<◌}
-use Rattle.kit.proofs.{two-pow-succ}
-use Rattle.kit.proofs.{eq-or-lt_of_le, arith, eqb, get_or, pow_pos, pow_mono}
+use Rattle.kit.proofs.{◌≡◌, refl, ◌∙◌, true, cond, ⊎_elim, ℕ, zero, suc, ◌+◌, ◌-◌, ◌*◌, ◌/◌, ◌%◌, ◌^◌, ◌≤◌, ◌<◌, Option}
+use Rattle.kit.proofs.{two-pow-succ, eq-or-lt_of_le, arith, eqb, get_or, pow_pos, pow_mono}
 use Rattle.words.specs.declared.Range.{Range}
 use Rattle.om3.specs.Document.{every, Node, InTree, number, Table, coefficient_at, low_detail_at, high_detail_at}
 use Rattle.om3.specs.Document.{code_at, left_of, right_of, reached_at, sound_root_values, sound_node, table_nodes}
@@ -26,7 +25,7 @@ module _ (l : ℕ) (t u : Table) (same : Agree l t u) where
     code-agrees : suc v.level ≡ l → code_at l t (number v) ≡ code_at l u (number v)
     code-agrees h = same.codes ((number v).0 - 2 ^ l / 2) (code-room l v i h)
 
-    halves-agree : v.level < l → (r : Range)
+    halves-agree : v.level < l → (r : Option Range)
         → (left_of l t v r ≡ left_of l u v r) × (right_of l t v r ≡ right_of l u v r)
     halves-agree b r =
         ⊎_elim (λ h. rw (pair-yes l v h, code-agrees h) (refl, refl))

@@ -1,8 +1,8 @@
 -- Laws of the smaller definitions: one level's stretch, joining, the day. Assumes nothing.
 use Rattle.kit.proofs.{◌≡◌, refl, Bool, true, false, cond, not, ◌||◌, ℕ, suc, ◌+◌, ◌*◌, ◌^◌, ◌≤◌, ◌<◌, two-pow-succ}
-use Rattle.kit.proofs.{arith, leb, pow_mono, leb-true, ltb-false, not-true}
-use Rattle.words.specs.{day_hours, declared.Stretch.Stretch, declared.Answer.Answer}
-use Rattle.words.specs.{declared.Answer.TheVariants.NoReading, declared.Answer.TheVariants.Found}
+use Rattle.kit.proofs.{None, Option, Some, arith, leb, pow_mono, leb-true, ltb-false, not-true}
+use Rattle.words.specs.declared.Summary.{Summary}
+use Rattle.words.specs.{day_hours, declared.Stretch.Stretch}
 use Rattle.om3.specs.Document.{bad_hours, levels, P, short, has_level, level_stretch, joined, day}
 use Rattle.laws.proofs.Tests.{and_left, and_right, neither}
 
@@ -24,9 +24,9 @@ stretch-within n j lent = by (has_level n j lent) refl
         omega (arith, ltb-false lent (P n) room, pow_mono below, two-pow-succ j, two-pow-succ (suc j))
 
 -- "No reading" changes nothing on the right; on the left that is its definition. [columns 19]
-pub joined-right : (a : Answer) → joined a NoReading ≡ a
-joined-right NoReading = refl
-joined-right (Found s) = refl
+pub joined-right : (a : Option Summary) → joined a None ≡ a
+joined-right None = refl
+joined-right (Some s) = refl
 
 -- A day that is not refused has an hour, and ends by hour n. [columns 21]
 pub day-hours : (n d : ℕ) → day_hours * d < n → ((day n d).from.0 < (day n d).upto.0) × ((day n d).upto.0 ≤ n)

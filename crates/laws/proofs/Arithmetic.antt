@@ -1,8 +1,7 @@
 -- Rounding up is the ceiling, and the digits that are printed for a number are its decimal digits. Assumes nothing.
 use Rattle.kit.proofs.{◌≡◌, refl, ◌∙◌, true, cond, ⊎_elim, List, [], ◌∷◌, ◌++◌, foldl-append, ℕ, zero, suc, ◌+◌, ◌-◌}
 use Rattle.kit.proofs.{◌*◌, ◌/◌, ◌%◌, ◌≤◌, ◌<◌, suc-mul, le-div_iff_mul-le, div-mul-le_self, le_refl, arith, ltb}
-use Rattle.kit.proofs.{get_or}
-use Rattle.kit.proofs.{le-leb, ltb-true, ltb-false}
+use Rattle.kit.proofs.{get_or, le-leb, ltb-true, ltb-false}
 use Rattle.om3.specs.Document.{every, ceil, ascii, zero_digit, digit, is_digit, with_digit, value_of, digits_of}
 use Rattle.om3.specs.Document.{decimal}
 use Rattle.laws.proofs.{NodeLists.every_append, Tests.chosen, Tests.below_or_not, Tests.both_true}

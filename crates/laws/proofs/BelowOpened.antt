@@ -5,8 +5,8 @@
 use Rattle.kit.proofs.{◌≡◌, refl, sym, ap, ◌∙◌, Bool, true, false, cond, ◌&&◌, and-false, List, [], ◌∷◌, ◌++◌, ℕ, zero}
 use Rattle.kit.proofs.{suc, ◌+◌, ◌-◌, ◌*◌, ◌/◌, ◌≤◌, ◌<◌, arith, ne_eqb}
 use Rattle.words.specs.declared.Column.{Column}
-use Rattle.om3.specs.Document.{keep, Node, root, left, right, both, Table, reached, nodes_below, has_reading}
-use Rattle.om3.specs.Document.{shares, inside, opened, visited, range_over, is_outer, is_inner}
+use Rattle.om3.specs.Document.{keep, Node, root, left, right, both, Table, reached, nodes_below, has_reading, shares}
+use Rattle.om3.specs.Document.{inside, opened, visited, range_over, is_outer, is_inner}
 use Rattle.laws.proofs.{Lists.keep_append, Ranges.both-assoc}
 use Rattle.laws.proofs.Opened.{left-half, right-half, half-unopened}
 

@@ -3,9 +3,8 @@
 use Rattle.kit.proofs.{◌≡◌, ap, ◌∙◌, false, not, ◌&&◌, ◌||◌, List, ◌∷◌, ℕ, ◌*◌, ◌/◌, ◌≤◌, ◌<◌, arith, leb, ltb, eqb, ℤ}
 use Rattle.kit.proofs.{length, lt-ltb, le-ltb, le-leb, lt-leb, ne_eqb}
 use Rattle.words.specs.{most_columns, day_hours}
-use Rattle.om3.specs.Document.{Series, levels, P, Table, coefficient, code_of_place, HasTable, Check, passes}
-use Rattle.om3.specs.Document.{in_order, check_hours, check_room, table_short, check_window, check_column, check_day}
-use Rattle.om3.specs.Document.{Drawn}
+use Rattle.om3.specs.Document.{Series, levels, P, Table, coefficient, code_of_place, HasTable, Check, passes, in_order}
+use Rattle.om3.specs.Document.{check_hours, check_room, table_short, check_window, check_column, check_day, Drawn}
 use Rattle.laws.proofs.{Lists.map-up-length, Lists.take-room, Taken.good-hours}
 
 -- A table that some series has is long enough.

@@ -4,9 +4,9 @@ use Rattle.kit.proofs.{true, false, List, ◌≡◌, ℕ, ◌-◌, ◌*◌, ◌^
 use Rattle.words.specs.declared.{Timestamp.Timestamp, Column.Column}
 use Rattle.om3.specs.Document.{is_gap, Series, levels, hour_of, Table, HasTable, in_column, outer, count, Covers}
 use Rattle.om3.specs.Document.{Ranged}
-use Rattle.laws.proofs.{Levels.levels-some, Levels.n≤P, Demand2.has-ranges, Intervals.in-column}
-use Rattle.laws.proofs.{Counted.count_most, Counted.count-at-0, DepthsLooked.DepthRanges}
-use Rattle.laws.proofs.{DepthsLooked.depth-ranges, FinishedAnswers.finished-count}
+use Rattle.laws.proofs.{Levels.levels-some, Levels.n≤P, Demand2.has-ranges, Intervals.in-column, Counted.count_most}
+use Rattle.laws.proofs.{Counted.count-at-0, DepthsLooked.DepthRanges, DepthsLooked.depth-ranges}
+use Rattle.laws.proofs.{FinishedAnswers.finished-count}
 
 -- The finished count is at most 6·l − 1.
 finished-most : (n : ℕ) (t : Table) (x : Column) → count (levels n) t x ≤ 6 * levels n - 1

@@ -2,34 +2,32 @@
 -- the hours before it give, and is from −2,000,000 to 2,000,000; the changes of all days add up to the series' last
 -- reading minus its first. Assumes nothing.
 use Rattle.kit.proofs.{◌≡◌, refl, sym, ap, ap₂, ◌∙◌, Bool, true, false, cond, List, [], ◌∷◌, map, ℕ, zero, suc, ◌+◌}
-use Rattle.kit.proofs.{◌-◌, ◌*◌, ◌≤◌, ◌<◌, min, add-zero, arith, ltb, ltb-true, ltb-false, eqb, ℤ, pos, neg_ℤ, ◌+ℤ◌}
-use Rattle.kit.proofs.{◌-ℤ◌, ◌≤ℤ◌}
+use Rattle.kit.proofs.{None, Option, Some, ◌-◌, ◌*◌, ◌≤◌, ◌<◌, min, add-zero, arith, ltb, ltb-true, ltb-false, eqb, ℤ}
+use Rattle.kit.proofs.{pos, neg_ℤ, ◌+ℤ◌, ◌-ℤ◌, ◌≤ℤ◌}
+use Rattle.words.specs.Said.{held}
+use Rattle.words.specs.declared.Summary.{Summary}
 use Rattle.signed.proofs.{signed, add_parts, sub_parts}
 use Rattle.words.specs.{day_hours, largest_reading, Readings, declared.Timestamp.Timestamp}
-use Rattle.words.specs.declared.{Range.TheVariants.Empty, Range.TheVariants.Held, Answer.Answer}
-use Rattle.words.specs.declared.{Answer.TheVariants.NoReading, Answer.TheVariants.Found}
 use Rattle.om3.specs.Document.{total, up_from, keep, Series, levels, is_gap, hour_of, hours_from, Table, HasTable}
-use Rattle.om3.specs.Document.{passes}
-use Rattle.om3.specs.Document.{in_order, column_hours, examine_column, answer, finished_nodes, joined, day, before}
-use Rattle.om3.specs.Document.{change_of, examine_before, day_change, days_of, added_by, span_of, reading_of}
+use Rattle.om3.specs.Document.{passes, in_order, column_hours, examine_column, answer, finished_nodes, joined, day}
+use Rattle.om3.specs.Document.{before, change_of, examine_before, day_change, days_of, added_by, span_of, reading_of}
 use Rattle.om3.specs.Document.{look_through}
 use Rattle.laws.proofs.{Ranges.readings-at, Demand2.has-sound, Answers.day-hours, NeverRefused.finished-passes}
 use Rattle.laws.proofs.{NeverRefused.hour-or-passes, ColumnChecks.day-passes, Demand3.column-seen}
-use Rattle.laws.proofs.LookedThrough.{answer_one, hour_answer, look-through-none, look-through-more}
-use Rattle.laws.proofs.LookedThrough.{look-through-cut}
+use Rattle.laws.proofs.LookedThrough.{answer_one, hour_answer, look-through-none, look-through-more, look-through-cut}
 
 -- What a look through day d, and a look through the hours before it, give.
-abbrev pub look_on : (n : ℕ) → List ℤ → ℕ → Answer
+abbrev pub look_on : (n : ℕ) → List ℤ → ℕ → Option Summary
 look_on n s d = look_through n s (column_hours (day n d))
 
-abbrev pub look_before : (n : ℕ) → List ℤ → ℕ → Answer
+abbrev pub look_before : (n : ℕ) → List ℤ → ℕ → Option Summary
 look_before n s d = look_through n s (column_hours (before d))
 
 -- The change of a day is by these two looks.
 module _ (n : ℕ) (s : List ℤ) (t : Table) (series : Series n s) (has : HasTable n s t) (d : ℕ) where
-  before-passes : (own : Answer) → examine_before n t d own ≡ passes
-  before-passes NoReading = refl
-  before-passes (Found own) =
+  before-passes : (own : Option Summary) → examine_before n t d own ≡ passes
+  before-passes None = refl
+  before-passes (Some own) =
       hour-or-passes (eqb d 0) _ (finished-passes (levels n) n t (has-sound n s t series has) (before d))
 
   pub day-drawn : day_hours * d < n → day_change n t d ≡ change_of (look_before n s d) (look_on n s d)
@@ -46,16 +44,16 @@ module _ (n : ℕ) (s : List ℤ) (t : Table) (series : Series n s) (has : HasTa
       (column-seen n s t series has x (omega (arith, hours.0)) hours.1))
 
 -- An answer of earlier hours joined with that of a day: its span has grown by the day's change.
-span-joined : (earlier own : Answer)
+span-joined : (earlier own : Option Summary)
     → span_of (joined earlier own) ≡ span_of earlier +ℤ added_by (change_of earlier own)
-span-joined NoReading NoReading = refl
-span-joined NoReading (Found own) =
+span-joined None None = refl
+span-joined None (Some own) =
     let z = own.last.grams -ℤ own.first.grams in
     omega (signed, add_parts (pos 0) z)
-span-joined (Found earlier) NoReading =
+span-joined (Some earlier) None =
     let z = earlier.last.grams -ℤ earlier.first.grams in
     omega (signed, add_parts z (pos 0))
-span-joined (Found earlier) (Found own) =
+span-joined (Some earlier) (Some own) =
     let a = earlier.first.grams in
     let b = earlier.last.grams in
     let c = own.last.grams in
@@ -65,7 +63,7 @@ span-joined (Found earlier) (Found own) =
 module _ (n : ℕ) (s : List ℤ) (added : ℕ → ℤ)
     (by-looks : (d : ℕ) → day_hours * d < n → added d ≡ added_by (change_of (look_before n s d) (look_on n s d))) where
   -- The look through all days before day d.
-  abbrev up_to : ℕ → Answer
+  abbrev up_to : ℕ → Option Summary
   up_to d = look_through n s (hours_from 0 (min (day_hours * d) n))
 
   next-day : (d : ℕ) → day_hours * d < n → span_of (up_to (d + 1)) ≡ span_of (up_to d) +ℤ added d
@@ -123,25 +121,25 @@ module _ (n : ℕ) (s : List ℤ) (added : ℕ → ℤ)
       sym (rw e at from-0 ∙ rw none (omega (signed, add_parts (pos 0) all)))
 
 -- The first and the last reading of an answer are readings.
-abbrev OfReadings : Answer → Type 0
-OfReadings NoReading = Unit
-OfReadings (Found a) =
-    Readings (Held a.first.grams a.first.grams) × Readings (Held a.last.grams a.last.grams)
+abbrev OfReadings : Option Summary → Type 0
+OfReadings None = Unit
+OfReadings (Some a) =
+    Readings (held a.first.grams a.first.grams) × Readings (held a.last.grams a.last.grams)
 
-joined-of-readings : (a b : Answer) → OfReadings a → OfReadings b → OfReadings (joined a b)
-joined-of-readings NoReading b p q = q
-joined-of-readings (Found a) NoReading p q = p
-joined-of-readings (Found a) (Found b) p q = (p.0, q.1)
+joined-of-readings : (a b : Option Summary) → OfReadings a → OfReadings b → OfReadings (joined a b)
+joined-of-readings None b p q = q
+joined-of-readings (Some a) None p q = p
+joined-of-readings (Some a) (Some b) p q = (p.0, q.1)
 
 -- The difference of two readings.
-change-of-readings : (earlier own : Answer) → OfReadings earlier → OfReadings own
+change-of-readings : (earlier own : Option Summary) → OfReadings earlier → OfReadings own
     → (neg_ℤ (pos (2 * largest_reading)) ≤ℤ added_by (change_of earlier own))
     × (added_by (change_of earlier own) ≤ℤ pos (2 * largest_reading))
-change-of-readings earlier NoReading p q = (omega signed, omega signed)
-change-of-readings NoReading (Found own) p q =
+change-of-readings earlier None p q = (omega signed, omega signed)
+change-of-readings None (Some own) p q =
     let parts = sub_parts own.last.grams own.first.grams in
     (omega (signed, parts), omega (signed, parts))
-change-of-readings (Found earlier) (Found own) p q =
+change-of-readings (Some earlier) (Some own) p q =
     let parts = sub_parts own.last.grams earlier.last.grams in
     (omega (signed, parts), omega (signed, parts))
 
@@ -149,8 +147,8 @@ module _ (n : ℕ) (s : List ℤ) (series : Series n s) where
   hour-of-readings : (h : Timestamp) → OfReadings (hour_answer n s h)
   hour-of-readings h = by (is_gap (hour_of n s h)) (readings-at n s series.holds h)
     where
-      by : (b : Bool) → Readings (cond b Empty (Held (hour_of n s h) (hour_of n s h)))
-          → OfReadings (cond b NoReading (answer_one (reading_of n s h)))
+      by : (b : Bool) → Readings (cond b None (held (hour_of n s h) (hour_of n s h)))
+          → OfReadings (cond b None (answer_one (reading_of n s h)))
       by true p = tt
       by false p = (p, p)
 

@@ -1,25 +1,25 @@
 -- A table is sound exactly if some series has it, and that series is the one it turns back to. Assumes nothing.
 use Rattle.kit.proofs.{◌≡◌, refl, sym, ap, ◌∙◌, true, false, ◌||◌, List, ◌↔◌, ℕ, ◌/◌, ◌^◌, ◌≤◌, ◌<◌, le_refl, arith, ℤ}
-use Rattle.kit.proofs.{pos, neg_ℤ, get_or, ext_get_or, get_or-take, take_all, lt-ltb}
+use Rattle.kit.proofs.{None, Option, Some, pos, neg_ℤ, get_or, ext_get_or, get_or-take, take_all, lt-ltb}
 use Rattle.signed.proofs.{signed}
 use Rattle.words.specs.{largest_hours, largest_reading, gap, low_of, Readings}
-use Rattle.words.specs.declared.{Range.Range, Range.TheVariants.Empty, Range.TheVariants.Held}
+use Rattle.words.specs.declared.{Range.Range}
 use Rattle.om3.specs.Document.{is_reading, is_gap, Series, levels, P, hour, hour_of, range_of, Node, InTree, Table}
 use Rattle.om3.specs.Document.{coefficient, code_of_place, table_of, HasTable, reached_at, reached, turned_back}
 use Rattle.om3.specs.Document.{sound_table, table_short}
-use Rattle.laws.proofs.{Tests.left-true, Tests.is-between, Lists.map-up-length, Lists.take-made}
-use Rattle.laws.proofs.{Levels.levels-some, Levels.n≤P, Nodes.start-hour, Ranges.low-hour, Reached.reached-range}
-use Rattle.laws.proofs.{MadeSound.made-sound, SoundTables.readings-reached, Places.coefficient-place}
-use Rattle.laws.proofs.{Places.hour-range, Agreeing.Agree, Agreeing.reached-agrees, Agreeing.sound-agrees}
+use Rattle.laws.proofs.{Tests.left-true, Tests.is-between, Lists.map-up-length, Lists.take-made, Levels.levels-some}
+use Rattle.laws.proofs.{Levels.n≤P, Nodes.start-hour, Ranges.low-hour, Reached.reached-range, MadeSound.made-sound}
+use Rattle.laws.proofs.{SoundTables.readings-reached, Places.coefficient-place, Places.hour-range, Agreeing.Agree}
+use Rattle.laws.proofs.{Agreeing.reached-agrees, Agreeing.sound-agrees}
 use Rattle.laws.proofs.Lent.{coefficients-there, codes-there}
 use Rattle.laws.proofs.TurnedBack.{turned-length, turned-at, coefficient-same, codes_same}
 
 -- The low of a range of readings is a reading, or the gap mark where it is empty.
-low-holds : (r : Range) → Readings r → (is_reading (low_of r) || is_gap (low_of r)) ≡ true
-low-holds Empty p = refl
-low-holds (Held a b) p =
-    left-true (is_gap a)
-    (is-between (neg_ℤ (pos largest_reading)) (pos largest_reading) a (omega signed) (omega signed))
+low-holds : (r : Option Range) → Readings r → (is_reading (low_of r) || is_gap (low_of r)) ≡ true
+low-holds None p = refl
+low-holds (Some r) p =
+    left-true (is_gap r.low)
+    (is-between (neg_ℤ (pos largest_reading)) (pos largest_reading) r.low (omega signed) (omega signed))
 
 module _ (n : ℕ) where
   abbrev l : ℕ

@@ -2,11 +2,11 @@
 -- stopped at a depth its two ranges and its count. The checks pass, since such a table is long enough and sound.
 -- Assumes nothing.
 use Rattle.kit.proofs.{◌≡◌, List, [], ◌∷◌, ℕ, ◌+◌, ◌≤◌, arith, ℤ, le-ltb}
-use Rattle.words.specs.declared.{Finished.Finished, Stopped.Stopped, Column.Column}
+use Rattle.words.specs.Said.{finished_as, stopped_as}
+use Rattle.words.specs.declared.{Column.Column}
 use Rattle.om3.specs.Document.{Series, levels, Table, HasTable, in_order, check_depth, column, column_hours}
-use Rattle.om3.specs.Document.{opened_nodes}
-use Rattle.om3.specs.Document.{count_at, outer, inner, examine_column, stopped, answer, count, finished_nodes, finished}
-use Rattle.om3.specs.Document.{look_through, Drawn, Ranged}
+use Rattle.om3.specs.Document.{opened_nodes, count_at, outer, inner, examine_column, stopped, answer, count}
+use Rattle.om3.specs.Document.{finished_nodes, finished, look_through, Drawn, Ranged}
 use Rattle.laws.proofs.{Demand2.has-sound, Demand2.has-ranges, Edges.edge-mono, Windows.column-before}
 use Rattle.laws.proofs.{FinishedAnswers.finished-looks, NeverRefused.opened-passes, NeverRefused.finished-passes}
 use Rattle.laws.proofs.{ColumnChecks.columns-pass, ColumnRanges.fits, ColumnRanges.column-ranged}
@@ -37,7 +37,7 @@ module _ (n : ℕ) (s : List ℤ) (t : Table) (series : Series n s) (has : HasTa
 
     -- Finished, it answers what a look through its hours gives.
     pub finished-drawn : (let x = column a b w k in
-        finished n t a b w k ≡ Finished.Answered (look_through n s (column_hours x)) (count (levels n) t x))
+        finished n t a b w k ≡ finished_as (look_through n s (column_hours x)) (count (levels n) t x))
     unfolding finished in_order
     finished-drawn =
         let four = examine_column l t x n (finished_nodes l t x) in
@@ -47,7 +47,7 @@ module _ (n : ℕ) (s : List ℤ) (t : Table) (series : Series n s) (has : HasTa
     -- Stopped at a depth up to l, it answers two ranges and a count.
     pub stopped-drawn : (d : ℕ) → d ≤ levels n
         → (let l = levels n in let x = column a b w k in
-        stopped n t a b w k d ≡ Stopped.Ranges (outer l t x d) (inner l t x d) (count_at l t x d))
+        stopped n t a b w k d ≡ stopped_as (outer l t x d) (inner l t x d) (count_at l t x d))
     unfolding stopped in_order
     stopped-drawn d deep =
         let ok = opened-passes l n t (has-sound n s t series has) x d deep in

@@ -1,11 +1,11 @@
 -- With greater depth the inner range widens and the outer range narrows, and at depth l they are one: there each
 -- visited node that is not opened, has a reading and shares an hour with the column lies wholly inside it. Assumes
 -- nothing.
-use Rattle.kit.proofs.{◌≡◌, refl, sym, ◌∙◌, Bool, true, false, cond, ℕ, ◌+◌, ◌≤◌, ◌<◌}
+use Rattle.kit.proofs.{◌≡◌, refl, sym, ◌∙◌, Bool, true, false, cond, ℕ, ◌+◌, ◌≤◌, ◌<◌, None, Option, Some}
 use Rattle.signed.proofs.{clash}
-use Rattle.words.specs.declared.{Column.Column, Range.Range, Range.TheVariants.Empty, Range.TheVariants.Held}
-use Rattle.om3.specs.Document.{Node, InTree, left, right, both, Table, reached, shares, inside, opened, visited}
-use Rattle.om3.specs.Document.{outer, inner, LiesWithin}
+use Rattle.words.specs.declared.{Column.Column, Range.Range}
+use Rattle.om3.specs.Document.{Node, InTree, left, right, both, Table, reached, shares, inside, opened, visited, outer}
+use Rattle.om3.specs.Document.{inner, LiesWithin}
 use Rattle.laws.proofs.{Tests.chosen, Intervals.inside-shares, Opened.opened-opens, Opened.unopened-if}
 use Rattle.laws.proofs.{EachVisited.root-visited, RangesBelow.outer-unopened, RangesBelow.inner-unopened}
 use Rattle.laws.proofs.BelowOpened.{visited-left, visited-right, visited-root}
@@ -47,16 +47,16 @@ module _ (l : ℕ) (t : Table) (x : Column) where
 
   -- A visited node that is not opened at depth l is empty, lies wholly inside the column or shares no hour with it.
   module _ (v : Node) (i : InTree l v) (o : opened l t x l v ≡ false) where
-    ends-agree : cond (shares l x v) (reached l t v) Empty ≡ cond (inside l x v) (reached l t v) Empty
+    ends-agree : cond (shares l x v) (reached l t v) None ≡ cond (inside l x v) (reached l t v) None
     ends-agree = by (shares l x v) refl (inside l x v) refl (reached l t v) refl
       where
-        by : (c : Bool) → shares l x v ≡ c → (b : Bool) → inside l x v ≡ b → (r : Range) → reached l t v ≡ r
-            → cond c r Empty ≡ cond b r Empty
+        by : (c : Bool) → shares l x v ≡ c → (b : Bool) → inside l x v ≡ b → (r : Option Range) → reached l t v ≡ r
+            → cond c r None ≡ cond b r None
         by true s true p r e = refl
         by false s false p r e = refl
         by false s true p r e = clash (sym s ∙ inside-shares l x v p)
-        by true s false p Empty e = refl
-        by true s false p (Held a b) e = clash (sym o ∙ opened-or-inside l t x v i (rw e) s p)
+        by true s false p None e = refl
+        by true s false p (Some r) e = clash (sym o ∙ opened-or-inside l t x v i (rw e) s p)
 
   -- At depth l the outer range is the inner one.
   pub depth-agrees : outer l t x l ≡ inner l t x l
@@ -71,11 +71,11 @@ module _ (l : ℕ) (t : Table) (x : Column) where
     -- What comes from a visited node lies within that node's range, and there is nothing if it shares no hour.
     module _ (e : ℕ) where
       abbrev InNode : ℕ → Node → Type 0
-      InNode h v = LiesWithin (outer_below l t x e h v) (cond (shares l x v) (reached l t v) Empty)
+      InNode h v = LiesWithin (outer_below l t x e h v) (cond (shares l x v) (reached l t v) None)
 
       in-reached : (h : ℕ) (v : Node) → InNode h v → LiesWithin (outer_below l t x e h v) (reached l t v)
       in-reached h v p =
-          within-trans (outer_below l t x e h v) (cond (shares l x v) (reached l t v) Empty) (reached l t v) p
+          within-trans (outer_below l t x e h v) (cond (shares l x v) (reached l t v) None) (reached l t v) p
           (chosen (λ r. LiesWithin r (reached l t v)) (shares l x v) (λ s. within-refl (reached l t v)) (λ s. tt))
 
       node-goes : GoingOn l t x e InNode
@@ -88,7 +88,7 @@ module _ (l : ℕ) (t : Table) (x : Column) where
       outer-in-node =
           each-visited l t x e InNode
           (λ h v q i m o.
-          rw (outer-unopened l t x e h v q m o) (within-refl (cond (shares l x v) (reached l t v) Empty)))
+          rw (outer-unopened l t x e h v q m o) (within-refl (cond (shares l x v) (reached l t v) None)))
           node-goes
 
     module _ (d e : ℕ) (d≤e : d ≤ e) where

@@ -1,7 +1,7 @@
 -- Where the ranges reached in a table are those of a series' hours, the outer range of a column at any depth covers
 -- each reading of the column, the inner range lies within what a look through its hours gives, and at depth l both are
 -- that. Assumes nothing.
-use Rattle.kit.proofs.{◌≡◌, true, false, List, map, ⊎_elim, ℕ, ◌+◌, ◌-◌, ◌^◌, ◌≤◌, ◌<◌, arith, ℤ}
+use Rattle.kit.proofs.{◌≡◌, true, false, List, map, ⊎_elim, ℕ, ◌+◌, ◌-◌, ◌^◌, ◌≤◌, ◌<◌, arith, ℤ, Option}
 use Rattle.words.specs.declared.{Column.Column, Range.Range}
 use Rattle.om3.specs.Document.{is_gap, hour, hour_of, Node, InTree, left, right, width, start, hours, look, range_of}
 use Rattle.om3.specs.Document.{Table, reached, in_column, column_hours, inside, outer, inner, Covers, LiesWithin}
@@ -69,7 +69,7 @@ module _ (l : ℕ) (t : Table) (x : Column) (n : ℕ) (s : List ℤ)
           (omega (arith, start-root l, width-root l)))
 
   -- What a look through the column's hours gives.
-  abbrev looked : Range
+  abbrev looked : Option Range
   looked = look (map (hour_of n s) (column_hours x))
 
   node-within : (v : Node) → InTree l v → Within x (start l v) (width l v) → LiesWithin (reached l t v) looked

@@ -1,14 +1,15 @@
 -- Going down from a node's range with its details gives the ranges of its halves, and only they do. Assumes nothing.
 use Rattle.kit.proofs.{◌≡◌, refl, Bool, true, false, cond, ℕ, ◌+◌, ◌-◌, ◌<◌, lit<, ℤ, pos, negsuc, ◌-ℤ◌, le_z, lt_z}
-use Rattle.kit.proofs.{◌≤ℤ◌}
-use Rattle.kit.proofs.{ne_eqb}
-use Rattle.signed.specs.{min_z, max_z, is_number}
+use Rattle.kit.proofs.{None, Option, Some, ◌≤ℤ◌, ne_eqb}
+use Rattle.words.specs.Said.{held}
+use Rattle.std.specs.Int.{int_min, int_max}
+use Rattle.signed.specs.{is_number}
 use Rattle.signed.proofs.{up, dn, add_parts, sub_parts, min-parts, max-parts, signed}
 use Rattle.words.specs.{largest_detail, left_mark, right_mark, gap_mark, low_of, high_of, Readings}
-use Rattle.words.specs.declared.{Range.Range, Range.TheVariants.Empty, Range.TheVariants.Held}
+use Rattle.words.specs.declared.{Range.Range}
 use Rattle.om3.specs.Document.{is_gap, hour_range, both, low_detail, high_detail, code, left_low, right_low, left_high}
-use Rattle.laws.proofs.Tests.{chosen}
 use Rattle.om3.specs.Document.{right_high, left_half, right_half, first_of_pair, second_of_pair, root_range}
+use Rattle.laws.proofs.Tests.{chosen}
 
 -- The left low is the low plus what the detail is over zero; the other three likewise.
 pub left_low-parts : (a d : ℤ) → up (left_low a d) + dn a ≡ up a + (up d - dn d) + dn (left_low a d)
@@ -37,12 +38,12 @@ no-mark k (pos m) b h = ne_eqb m k (λ e. omega signed)
 no-mark k (negsuc m) b h = refl
 
 -- From the lesser of two lows and their difference both lows come back; from the greater of two highs both highs.
-held_back : (a b c d : ℤ) → Readings (Held a b) → Readings (Held c d)
-    → (left_half (both (Held a b) (Held c d)) (a -ℤ c) (b -ℤ d) ≡ Held a b)
-    × (right_half (both (Held a b) (Held c d)) (a -ℤ c) (b -ℤ d) ≡ Held c d)
+held_back : (a b c d : ℤ) → Readings (held a b) → Readings (held c d)
+    → (left_half (both (held a b) (held c d)) (a -ℤ c) (b -ℤ d) ≡ held a b)
+    × (right_half (both (held a b) (held c d)) (a -ℤ c) (b -ℤ d) ≡ held c d)
 held_back a b c d p q =
-    let x = min_z a c in
-    let y = max_z b d in
+    let x = int_min a c in
+    let y = int_max b d in
     let small : (a -ℤ c) ≤ℤ pos largest_detail = omega (signed, sub_parts a c) in
     let a_back : left_low x (a -ℤ c) ≡ a = omega (signed, min-parts a c, sub_parts a c, left_low-parts x (a -ℤ c)) in
     let c-back : right_low x (a -ℤ c) ≡ c = omega (signed, min-parts a c, sub_parts a c, right_low-parts x (a -ℤ c)) in
@@ -51,24 +52,24 @@ held_back a b c d p q =
     omega (signed, max-parts b d, sub_parts b d, right_high-parts y (b -ℤ d)) in
     rw (no-mark left_mark (a -ℤ c) (lit< tt) small, no-mark right_mark (a -ℤ c) (lit< tt) small) (cc, cc)
 
-pub halves-back : (r s : Range) → Readings r → Readings s
+pub halves-back : (r s : Option Range) → Readings r → Readings s
     → (left_half (both r s) (low_detail r s) (high_detail r s) ≡ r)
     × (right_half (both r s) (low_detail r s) (high_detail r s) ≡ s)
-halves-back Empty Empty p q = (refl, refl)
-halves-back Empty (Held c d) p q = (refl, refl)
-halves-back (Held a b) Empty p q = (refl, refl)
-halves-back (Held a b) (Held c d) p q = held_back a b c d p q
+halves-back None None p q = (refl, refl)
+halves-back None (Some r) p q = (refl, refl)
+halves-back (Some r) None p q = (refl, refl)
+halves-back (Some r) (Some u) p q = held_back r.low r.high u.low u.high p q
 
 -- The root values give node 1's range.
-pub root-back : (r : Range) → Readings r → root_range (low_of r) (high_of r) ≡ r
-root-back Empty p = refl
-root-back (Held a b) p =
-    let h : a ≤ℤ pos largest_detail = omega signed in
-    rw (no-mark gap_mark a (lit< tt) h)
+pub root-back : (r : Option Range) → Readings r → root_range (low_of r) (high_of r) ≡ r
+root-back None p = refl
+root-back (Some r) p =
+    let h : r.low ≤ℤ pos largest_detail = omega signed in
+    rw (no-mark gap_mark r.low (lit< tt) h)
 
 -- A pair's range and code give its two hours.
-abbrev pub hour_if : Bool → ℤ → Range
-hour_if f z = cond f Empty (Held z z)
+abbrev pub hour_if : Bool → ℤ → Option Range
+hour_if f z = cond f None (held z z)
 
 abbrev pub code_if : Bool → Bool → Bool → ℕ
 code_if f g h = cond f (cond g 4 3) (cond g 2 (cond h 1 0))
@@ -85,10 +86,10 @@ module _ (x y : ℤ) where
       by true false h e = (refl, refl)
       by false true h e = (refl, refl)
       by false false true e =
-          let low : min_z x y ≡ x = omega (signed, min-parts x y) in
-          let high : max_z x y ≡ y = omega (signed, max-parts x y) in
+          let low : int_min x y ≡ x = omega (signed, min-parts x y) in
+          let high : int_max x y ≡ y = omega (signed, max-parts x y) in
           (cc, cc)
       by false false false e =
-          let low : min_z x y ≡ y = omega (signed, min-parts x y) in
-          let high : max_z x y ≡ x = omega (signed, max-parts x y) in
+          let low : int_min x y ≡ y = omega (signed, min-parts x y) in
+          let high : int_max x y ≡ x = omega (signed, max-parts x y) in
           (cc, cc)

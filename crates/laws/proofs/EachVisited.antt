@@ -3,8 +3,7 @@
 use Rattle.kit.proofs.{◌≡◌, sym, ◌∙◌, true, false, ⊎_elim, ℕ, zero, suc, ◌+◌, ◌≤◌, ◌<◌, eq-or-lt_of_le, zero-add, arith}
 use Rattle.signed.proofs.{clash}
 use Rattle.words.specs.declared.Column.{Column}
-use Rattle.om3.specs.Document.{Node, InTree, root, left, right, Table, has_reading, shares, inside, opened}
-use Rattle.om3.specs.Document.{visited}
+use Rattle.om3.specs.Document.{Node, InTree, root, left, right, Table, has_reading, shares, inside, opened, visited}
 use Rattle.laws.proofs.{Tests.by-test, Opened.opened-opens, Opened.opens-opened, Opened.unopened-if}
 use Rattle.laws.proofs.Nodes.{root_in, left_in, right-in, width-hour}
 use Rattle.laws.proofs.Intervals.{shares-overlap, within-inside}

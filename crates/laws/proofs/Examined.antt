@@ -2,9 +2,9 @@
 use Rattle.kit.proofs.{◌≡◌, refl, sym, ap, ◌∙◌, Bool, true, false, ◌&&◌, List, [], ◌∷◌, ◌++◌, ◌↔◌, ℕ, arith}
 use Rattle.signed.proofs.{clash}
 use Rattle.words.specs.declared.{Refusal.Refusal, NodeId.NodeId}
-use Rattle.om3.specs.Document.{every, Node, number, Table, coefficient_at, Check, passes, refuses, refuse_if}
-use Rattle.om3.specs.Document.{and_then, in_order, answer_by, FirstCause, sound_root_values, sound_node, table_nodes}
-use Rattle.om3.specs.Document.{sound_table, examine_node, examine_nodes, examine}
+use Rattle.om3.specs.Document.{every, Node, number, Table, coefficient_at, Check, passes, refuses, refuse_if, and_then}
+use Rattle.om3.specs.Document.{in_order, answer_by, FirstCause, sound_root_values, sound_node, table_nodes, sound_table}
+use Rattle.om3.specs.Document.{examine_node, examine_nodes, examine}
 
 -- A first and a second check pass only if both do; a check passes only if its cause is not there.
 pub then-first : (c d : Check) → and_then c d ≡ passes → c ≡ passes

@@ -1,34 +1,34 @@
 -- Where what is reached at each node is the range of its hours, the finished answer of a column is what a look through
 -- its hours gives; and its count is at most 6·l − 1 where that of depth l is at most 4·l − 1, since each walk adds at
 -- most l. Assumes nothing.
-use Rattle.kit.proofs.{◌≡◌, refl, sym, ap, ◌∙◌, List, [], ◌∷◌, map, ℕ, ◌+◌, ◌-◌, ◌*◌, ◌^◌, ◌≤◌, arith, ℤ}
+use Rattle.kit.proofs.{◌≡◌, refl, sym, ap, ◌∙◌, List, [], ◌∷◌, map, ℕ, ◌+◌, ◌-◌, ◌*◌, ◌^◌, ◌≤◌, arith, ℤ, None, Option}
+use Rattle.kit.proofs.{Some}
+use Rattle.words.specs.declared.Summary.{Summary}
 use Rattle.words.specs.{low_of, high_of}
-use Rattle.words.specs.declared.{Answer.Answer, Answer.TheVariants.NoReading, Answer.TheVariants.Found, Column.Column}
+use Rattle.words.specs.declared.{Column.Column}
 use Rattle.om3.specs.Document.{last_of, sum, Node, InTree, range_of, Table, reached, column_hours, count_at, range_over}
 use Rattle.om3.specs.Document.{levels_of, end_of, walk_end, towards_first, towards_last, first_walk, last_walk}
-use Rattle.om3.specs.Document.{reading_at}
-use Rattle.om3.specs.Document.{inside_nodes, walks_from, answer_from, answer, count, look_through}
-use Rattle.laws.proofs.{Listed.All, Answers.joined-right, LookedThrough.range_of_answer}
-use Rattle.laws.proofs.{LookedThrough.range-joined, NodeAnswers.reached-answer, WalksEnd.walk_first}
-use Rattle.laws.proofs.{WalksEnd.walk-last, InnerAnswers.inner-looks}
+use Rattle.om3.specs.Document.{reading_at, inside_nodes, walks_from, answer_from, answer, count, look_through}
+use Rattle.laws.proofs.{Listed.All, Answers.joined-right, LookedThrough.range_of_answer, LookedThrough.range-joined}
+use Rattle.laws.proofs.{NodeAnswers.reached-answer, WalksEnd.walk_first, WalksEnd.walk-last, InnerAnswers.inner-looks}
 use Rattle.laws.proofs.KeptNodes.{NonEmpty, inside-inner, inside-non-empty}
 use Rattle.laws.proofs.NodeAnswers.{node_answer, Begins, Ends, begins-joined, ends-joined, joined_over}
 
 -- An answer is told by its first reading, its last reading and its range.
-answer-told : (l : ℕ) (t : Table) (v : Node) (vs : List Node) (a : Answer)
+answer-told : (l : ℕ) (t : Table) (v : Node) (vs : List Node) (a : Option Summary)
     → Begins a (reading_at l t (end_of l (first_walk l t v)))
     → Ends a (reading_at l t (end_of l (last_walk l t (last_of v vs))))
     → range_over l t (v ∷ vs) ≡ range_of_answer a → answer_from l t (v ∷ vs) ≡ a
-answer-told l t v vs NoReading p q e = absurd p
-answer-told l t v vs (Found f) p q e =
-    λ i. Found (record { first = sym p i; last = sym q i; low = ap low_of e i; high = ap high_of e i })
+answer-told l t v vs None p q e = absurd p
+answer-told l t v vs (Some f) p q e =
+    λ i. Some (record { first = sym p i; last = sym q i; low = ap low_of e i; high = ap high_of e i })
 
 module _ (l n : ℕ) (s : List ℤ) (t : Table)
     (ranges : (v : Node) → InTree l v → reached l t v ≡ range_of l n s v) where
-  abbrev A : Node → Answer
+  abbrev A : Node → Option Summary
   A v = node_answer l n s v
 
-  abbrev J : List Node → Answer
+  abbrev J : List Node → Option Summary
   J vs = joined_over l n s vs
 
   range-over : (vs : List Node) → All (NonEmpty l t) vs → range_over l t vs ≡ range_of_answer (J vs)

@@ -2,9 +2,10 @@
 -- a look through the column's hours gives: at that depth no hour of the column with a reading is left out. Assumes
 -- nothing.
 use Rattle.kit.proofs.{◌≡◌, refl, sym, ◌∙◌, Bool, true, false, cond, ◌&&◌, List, [], ◌∷◌, ℕ, suc, ◌^◌, ◌≤◌, ◌<◌, arith}
-use Rattle.kit.proofs.{ℤ}
+use Rattle.kit.proofs.{Option, ℤ}
+use Rattle.words.specs.declared.Summary.{Summary}
 use Rattle.signed.proofs.{clash}
-use Rattle.words.specs.declared.{Answer.Answer, Column.Column}
+use Rattle.words.specs.declared.{Column.Column}
 use Rattle.om3.specs.Document.{keep, Node, InTree, left, right, range_of, Table, reached, nodes_below, in_column}
 use Rattle.om3.specs.Document.{column_hours, has_reading, shares, inside, opened, is_inner, inner_nodes, joined}
 use Rattle.om3.specs.Document.{look_through}
@@ -17,10 +18,10 @@ use Rattle.laws.proofs.KeptHours.{no-reading-kept, hours_shared, inside-kept, un
 module _ (l n : ℕ) (s : List ℤ) (t : Table) (ranges : (v : Node) → InTree l v → reached l t v ≡ range_of l n s v)
     (x : Column) where
   -- The answer of those hours of a node that lie in the column.
-  abbrev answer_in : Node → Answer
+  abbrev answer_in : Node → Option Summary
   answer_in v = look_through n s (hours_shared l x v)
 
-  abbrev J : List Node → Answer
+  abbrev J : List Node → Option Summary
   J vs = joined_over l n s vs
 
   answer-in-halves : (v : Node) → v.level < l → answer_in v ≡ joined (answer_in (left v)) (answer_in (right v))

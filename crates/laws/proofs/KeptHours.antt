@@ -1,30 +1,30 @@
 -- Of the hours of a node, those that lie in a column are all of them, none of them, or as many as its halves have; of
 -- node 1 they are the hours of the column. Assumes nothing.
 use Rattle.kit.proofs.{◌≡◌, refl, sym, ap, ◌∙◌, Bool, true, false, List, [], ◌∷◌, ◌++◌, append-nil, ℕ, ◌-◌, ◌^◌, ◌≤◌}
-use Rattle.kit.proofs.{◌<◌, arith, ℤ}
-use Rattle.words.specs.declared.{Timestamp.Timestamp, Answer.Answer, Answer.TheVariants.NoReading}
-use Rattle.words.specs.declared.{Answer.TheVariants.Found, Column.Column}
-use Rattle.om3.specs.Document.{any, keep, hours_from, Node, root, left, right, hours, in_column, column_hours}
-use Rattle.om3.specs.Document.{shares, inside, joined, look_through}
+use Rattle.kit.proofs.{None, Option, Some, ◌<◌, arith, ℤ}
+use Rattle.words.specs.declared.Summary.{Summary}
+use Rattle.words.specs.declared.{Timestamp.Timestamp, Column.Column}
+use Rattle.om3.specs.Document.{any, keep, hours_from, Node, root, left, right, hours, in_column, column_hours, shares}
+use Rattle.om3.specs.Document.{inside, joined, look_through}
 use Rattle.laws.proofs.{Tests.fails-up, Tests.chosen, Windows.hours-cut, Lists.keep_append, Lists.every-kept}
 use Rattle.laws.proofs.{Lists.nothing-kept, Nodes.start-root, Nodes.width-root, Nodes.hours-halves}
 use Rattle.laws.proofs.LookedThrough.{hour_answer, look-through-more}
 use Rattle.laws.proofs.Intervals.{Overlap, Within, any-overlap, within-every}
 
 -- Of hours without a reading none has one.
-none-joined : (a b : Answer) → joined a b ≡ NoReading → (a ≡ NoReading) × (b ≡ NoReading)
-none-joined NoReading b e = (refl, e)
-none-joined (Found f) NoReading e = (e, refl)
-none-joined (Found f) (Found g) e = (cc, cc)
+none-joined : (a b : Option Summary) → joined a b ≡ None → (a ≡ None) × (b ≡ None)
+none-joined None b e = (refl, e)
+none-joined (Some f) None e = (e, refl)
+none-joined (Some f) (Some g) e = (cc, cc)
 
 pub no-reading-kept : (n : ℕ) (s : List ℤ) (p : Timestamp → Bool) (hs : List Timestamp)
-    → look_through n s hs ≡ NoReading → look_through n s (keep p hs) ≡ NoReading
+    → look_through n s hs ≡ None → look_through n s (keep p hs) ≡ None
 unfolding keep
 no-reading-kept n s p [] e = e
 no-reading-kept n s p (h ∷ hs) e =
     let two = none-joined (hour_answer n s h) (look_through n s hs) (sym (look-through-more n s h hs) ∙ e) in
     let r = no-reading-kept n s p hs two.1 in
-    chosen (λ gs. look_through n s gs ≡ NoReading) (p h)
+    chosen (λ gs. look_through n s gs ≡ None) (p h)
     (λ e. look-through-more n s h (keep p hs) ∙ rw (two.0, r)) (λ e. r)
 
 module _ (l : ℕ) (x : Column) (v : Node) where

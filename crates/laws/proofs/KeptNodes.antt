@@ -8,8 +8,8 @@ use Rattle.signed.proofs.{clash}
 use Rattle.words.specs.declared.Column.{Column}
 use Rattle.om3.specs.Document.{keep, Node, InTree, root, left, right, Table, nodes_below, all_nodes, has_reading}
 use Rattle.om3.specs.Document.{shares, inside, opened, visited, opened_nodes, is_inner, inner_nodes, inside_nodes}
-use Rattle.laws.proofs.{Tests.and_left, Tests.chosen, Intervals.inside-shares, Opened.opened-opens}
-use Rattle.laws.proofs.{Opened.unopened-if, Listed.All, Listed.all_append, Listed.all_map}
+use Rattle.laws.proofs.{Tests.and_left, Tests.chosen, Intervals.inside-shares, Opened.opened-opens, Opened.unopened-if}
+use Rattle.laws.proofs.{Listed.All, Listed.all_append, Listed.all_map}
 
 -- What is kept of nodes that are all of a kind is of that kind, and passes the test.
 all-kept : (P : Node → Type 0) (p : Node → Bool) (vs : List Node) → All P vs

@@ -1,10 +1,11 @@
 -- The table of a series is sound. Assumes nothing.
-use Rattle.kit.proofs.{◌≡◌, refl, ap, ◌∙◌, Bool, true, false, ◌&&◌, ◌||◌, List, ⊎_elim, ℕ, suc, ◌≤◌, ◌<◌}
-use Rattle.kit.proofs.{eq-or-lt_of_le, ltb, ℤ, pos, neg_ℤ, ◌-ℤ◌, lt_z}
-use Rattle.signed.specs.{min_z, max_z}
+use Rattle.kit.proofs.{◌≡◌, refl, ap, ◌∙◌, Bool, true, false, ◌&&◌, ◌||◌, List, ⊎_elim, ℕ, suc, ◌≤◌, ◌<◌, None, Option}
+use Rattle.kit.proofs.{Some, eq-or-lt_of_le, ltb, ℤ, pos, neg_ℤ, ◌-ℤ◌, lt_z}
+use Rattle.words.specs.Said.{held}
+use Rattle.std.specs.Int.{int_min, int_max}
 use Rattle.signed.proofs.{sub_parts, min-parts, max-parts, true-eq_z, signed}
 use Rattle.words.specs.{largest_reading, largest_detail, left_mark, right_mark, low_of, high_of, Readings}
-use Rattle.words.specs.declared.{Range.Range, Range.TheVariants.Empty, Range.TheVariants.Held}
+use Rattle.words.specs.declared.{Range.Range}
 use Rattle.om3.specs.Document.{is_reading, is_gap, Holds, hour, hour_of, Node, InTree, root, left, right, start}
 use Rattle.om3.specs.Document.{first_hour, hour_range, both, range_of, Table, low_detail, high_detail, code, pair_code}
 use Rattle.om3.specs.Document.{table_of, left_half, coefficient_at, is_detail, ordered, both_are, sound_details}
@@ -15,20 +16,20 @@ use Rattle.laws.proofs.{Reached.reached-range, NodeLists.table-from-each}
 use Rattle.laws.proofs.Down.{halves-back, hour_if, code_if, hours-back}
 use Rattle.laws.proofs.Places.{root-low, root-high, low-place, high-place, code-place, hour-range}
 
-root-sound : (r : Range) → Readings r → sound_root_values (low_of r) (high_of r) ≡ true
-root-sound Empty p = refl
-root-sound (Held a b) p =
-    right-true (is_gap a && is_gap b)
-    (both_true {a = is_reading a && is_reading b}
-    (both_true {a = is_reading a}
-    (is-between (neg_ℤ (pos largest_reading)) (pos largest_reading) a (omega signed) (omega signed))
-    (is-between (neg_ℤ (pos largest_reading)) (pos largest_reading) b (omega signed) (omega signed)))
+root-sound : (r : Option Range) → Readings r → sound_root_values (low_of r) (high_of r) ≡ true
+root-sound None p = refl
+root-sound (Some r) p =
+    right-true (is_gap r.low && is_gap r.high)
+    (both_true {a = is_reading r.low && is_reading r.high}
+    (both_true {a = is_reading r.low}
+    (is-between (neg_ℤ (pos largest_reading)) (pos largest_reading) r.low (omega signed) (omega signed))
+    (is-between (neg_ℤ (pos largest_reading)) (pos largest_reading) r.high (omega signed) (omega signed)))
     (omega signed))
 
 -- A node that is not a pair, and both of whose halves have readings.
-module _ (a b c d : ℤ) (p : Readings (Held a b)) (q : Readings (Held c d)) where
-  abbrev r : Range
-  r = both (Held a b) (Held c d)
+module _ (a b c d : ℤ) (p : Readings (held a b)) (q : Readings (held c d)) where
+  abbrev r : Option Range
+  r = both (held a b) (held c d)
 
   held-sound : sound_details r (a -ℤ c) (b -ℤ d) ≡ true
   held-sound =
@@ -40,15 +41,15 @@ module _ (a b c d : ℤ) (p : Readings (Held a b)) (q : Readings (Held c d)) whe
       (omega (signed, sub_parts a c)) (omega (signed, sub_parts a c)))
       (is-between (neg_ℤ (pos largest_detail)) (pos largest_detail) (b -ℤ d)
       (omega (signed, sub_parts b d)) (omega (signed, sub_parts b d))))
-      (ap ordered (halves-back (Held a b) (Held c d) p q).0 ∙ omega signed))
-      (ap ordered (halves-back (Held a b) (Held c d) p q).1 ∙ omega signed))
+      (ap ordered (halves-back (held a b) (held c d) p q).0 ∙ omega signed))
+      (ap ordered (halves-back (held a b) (held c d) p q).1 ∙ omega signed))
 
-details-sound : (r s : Range) → Readings r → Readings s
+details-sound : (r s : Option Range) → Readings r → Readings s
     → sound_details (both r s) (low_detail r s) (high_detail r s) ≡ true
-details-sound Empty Empty p q = refl
-details-sound Empty (Held c d) p q = refl
-details-sound (Held a b) Empty p q = refl
-details-sound (Held a b) (Held c d) p q = held-sound a b c d p q
+details-sound None None p q = refl
+details-sound None (Some r) p q = refl
+details-sound (Some r) None p q = refl
+details-sound (Some r) (Some u) p q = held-sound r.low r.high u.low u.high p q
 
 code-sound : (x y : ℤ) → sound_code (both (hour_range x) (hour_range y)) (code x y) ≡ true
 code-sound x y = by (is_gap x) (is_gap y) (lt_z x y) refl
@@ -58,7 +59,7 @@ code-sound x y = by (is_gap x) (is_gap y) (lt_z x y) refl
     by true false h e = true-eq_z y y refl
     by false true h e = true-eq_z x x refl
     by false false true e =
-        left-true {a = lt_z (min_z x y) (max_z x y)} _ (omega (signed, min-parts x y, max-parts x y))
+        left-true {a = lt_z (int_min x y) (int_max x y)} _ (omega (signed, min-parts x y, max-parts x y))
     by false false false e = refl
 
 -- Hours from n on are gaps.

@@ -5,8 +5,8 @@ use Rattle.kit.proofs.{le_refl, arith}
 use Rattle.words.specs.declared.Column.{Column}
 use Rattle.om3.specs.Document.{last_of, Node, InTree, Table, Check, passes, in_order, sound_table, examine}
 use Rattle.om3.specs.Document.{examine_nodes, no_hour, opened_nodes, examine_column, walk_nodes, nodes_of}
-use Rattle.om3.specs.Document.{towards_first}
-use Rattle.om3.specs.Document.{towards_last, first_walk, last_walk, walks_from, inside_nodes, finished_nodes}
+use Rattle.om3.specs.Document.{towards_first, towards_last, first_walk, last_walk, walks_from, inside_nodes}
+use Rattle.om3.specs.Document.{finished_nodes}
 use Rattle.laws.proofs.{Listed.All, Listed.all_append, SoundTables.root-sound, SoundTables.node-sound}
 use Rattle.laws.proofs.WalksEnd.{Taken, first_taken, last_taken}
 use Rattle.laws.proofs.KeptNodes.{Above, NonEmpty, opened-above, inside-non-empty}

@@ -1,8 +1,8 @@
 -- What it is to be opened, and that a half of a node that is not opened is not opened. Assumes nothing.
 use Rattle.kit.proofs.{◌≡◌, refl, sym, ◌∙◌, Bool, true, false, cond, not, ◌&&◌, ℕ, ◌+◌, ◌≤◌, ◌<◌, arith, ltb, ltb-true}
-use Rattle.kit.proofs.{lt-ltb, not-true}
+use Rattle.kit.proofs.{None, Option, Some, lt-ltb, not-true}
 use Rattle.signed.proofs.{clash}
-use Rattle.words.specs.declared.{Column.Column, Range.Range, Range.TheVariants.Empty, Range.TheVariants.Held}
+use Rattle.words.specs.declared.{Column.Column, Range.Range}
 use Rattle.om3.specs.Document.{Node, left, right, is_pair, width, start, is_empty, Table, left_of, right_of, reached}
 use Rattle.om3.specs.Document.{has_reading, shares, inside, opened}
 use Rattle.laws.proofs.Tests.{and_left, and_right, fails-up}
@@ -42,14 +42,14 @@ module _ (l : ℕ) (t : Table) (x : Column) (d : ℕ) (v : Node) where
   unopened-if f = fails-up (opened l t x d v) false (λ e. absurd (f (opened-opens e))) refl
 
 -- Halves of an empty node are empty: a half that has a reading is one of a node that has.
-no-range : (b : Bool) → not (is_empty (cond b Empty Empty)) ≡ false
+no-range : (b : Bool) → not (is_empty (cond b None None)) ≡ false
 no-range true = refl
 no-range false = refl
 
-some-above : (half : Range → Range) → not (is_empty (half Empty)) ≡ false → (r : Range)
+some-above : (half : Option Range → Option Range) → not (is_empty (half None)) ≡ false → (r : Option Range)
     → not (is_empty (half r)) ≡ true → not (is_empty r) ≡ true
-some-above half none Empty e = clash (sym none ∙ e)
-some-above half none (Held a b) e = refl
+some-above half none None e = clash (sym none ∙ e)
+some-above half none (Some r) e = refl
 
 module _ (l : ℕ) (t : Table) (v : Node) where
   left-reading : has_reading l t (left v) ≡ true → has_reading l t v ≡ true

@@ -4,9 +4,8 @@ use Rattle.kit.proofs.{pow_mono, eq-eqb, ne_eqb}
 use Rattle.words.specs.{low_of, high_of}
 use Rattle.om3.specs.Document.{up_from, hour, hour_of, Node, InTree, number, root, left, right, start, hours}
 use Rattle.om3.specs.Document.{hour_range, look, range_of, Table, low_detail, high_detail, low_detail_of}
-use Rattle.om3.specs.Document.{high_detail_of}
-use Rattle.om3.specs.Document.{coefficient, pair_code, code_of_place, table_of, coefficient_at, low_detail_at}
-use Rattle.om3.specs.Document.{high_detail_at, code_at}
+use Rattle.om3.specs.Document.{high_detail_of, coefficient, pair_code, code_of_place, table_of, coefficient_at}
+use Rattle.om3.specs.Document.{low_detail_at, high_detail_at, code_at}
 use Rattle.laws.proofs.{Lists.map-up-from-0, Ranges.both-empty}
 use Rattle.laws.proofs.Nodes.{detail-room, pair-half, code-room, width-hour, node-of-number}
 

@@ -2,7 +2,8 @@
 -- own. So each printed line is of an answer, which is what a look through the column's hours gives. Assumes nothing.
 use Rattle.kit.proofs.{◌≡◌, refl, true, not, ◌&&◌, ◌||◌, List, [], ◌∷◌, map, ℕ, zero, suc, ◌+◌, ◌≤◌, ◌<◌, arith, leb}
 use Rattle.kit.proofs.{ltb, eqb, ℤ, length, get_or, length-map, ltb-true, ltb-false, leb-true, not-false}
-use Rattle.words.specs.{most_columns, gap, declared.Finished.Finished, declared.HourLine.HourLine}
+use Rattle.words.specs.Said.{finished_as}
+use Rattle.words.specs.{most_columns, gap, declared.HourLine.HourLine}
 use Rattle.words.specs.declared.Refusal.TheVariants.{BadReading, BadWindow, BadColumn}
 use Rattle.om3.specs.Document.{is_reading, is_gap, Series, levels, hour, table_of, passes, in_order, check_hours}
 use Rattle.om3.specs.Document.{check_window, check_column, column, column_hours, count, finished, look_through, Drawn}
@@ -80,7 +81,7 @@ module _ (a b w : ℕ) (lines : List HourLine) (ok : in_order (printing_checks a
   pub columns-answered : (k : ℕ) → k < w
       → (let t = table_of (levels n) n s in
       let x = column a b w k in
-      finished n t a b w k ≡ Finished.Answered (look_through n s (column_hours x)) (count (levels n) t x))
+      finished n t a b w k ≡ finished_as (look_through n s (column_hours x)) (count (levels n) t x))
   columns-answered k h =
       finished-drawn n s (table_of (levels n) n s) text-series (made-has n s) a b w k
       (window-drawn n a b w passed.window k h)

@@ -1,30 +1,30 @@
 -- Ranges of neighbouring hours join, an empty one changes nothing, and the ranges of a series lie within readings.
 -- Assumes nothing.
 use Rattle.kit.proofs.{◌≡◌, refl, sym, ap, ◌∙◌, true, ◌||◌, List, [], ◌∷◌, ◌++◌, map, map-append, ⊎_elim, ℕ, ◌<◌, ltb}
-use Rattle.kit.proofs.{ℤ, pos, neg_ℤ, get_or, ltb-true}
-use Rattle.signed.specs.{min_z, max_z}
+use Rattle.kit.proofs.{None, Option, Some, ℤ, pos, neg_ℤ, get_or, ltb-true}
+use Rattle.std.specs.Int.{int_min, int_max}
 use Rattle.signed.proofs.{clash, min-parts, max-parts, is_number-true, signed}
 use Rattle.words.specs.{largest_reading, gap_mark, gap, low_of, Readings}
-use Rattle.words.specs.declared.{Timestamp.Timestamp, Range.Range, Range.TheVariants.Empty, Range.TheVariants.Held}
+use Rattle.words.specs.declared.{Timestamp.Timestamp, Range.Range}
 use Rattle.om3.specs.Document.{is_reading, is_gap, Holds, hour_of, Node, left, right, hours, hour_range, both, look}
 use Rattle.om3.specs.Document.{range_of}
 use Rattle.laws.proofs.{Nodes.hours-halves, Tests.or_cases, Tests.chosen, Tests.between}
 
-pub min_assoc : (a b c : ℤ) → min_z (min_z a b) c ≡ min_z a (min_z b c)
-min_assoc a b c = omega (signed, min-parts a b, min-parts b c, min-parts (min_z a b) c, min-parts a (min_z b c))
+pub min_assoc : (a b c : ℤ) → int_min (int_min a b) c ≡ int_min a (int_min b c)
+min_assoc a b c = omega (signed, min-parts a b, min-parts b c, min-parts (int_min a b) c, min-parts a (int_min b c))
 
-pub max_assoc : (a b c : ℤ) → max_z (max_z a b) c ≡ max_z a (max_z b c)
-max_assoc a b c = omega (signed, max-parts a b, max-parts b c, max-parts (max_z a b) c, max-parts a (max_z b c))
+pub max_assoc : (a b c : ℤ) → int_max (int_max a b) c ≡ int_max a (int_max b c)
+max_assoc a b c = omega (signed, max-parts a b, max-parts b c, max-parts (int_max a b) c, max-parts a (int_max b c))
 
-pub both-assoc : (r s u : Range) → both (both r s) u ≡ both r (both s u)
-both-assoc Empty s u = refl
-both-assoc (Held a b) Empty u = refl
-both-assoc (Held a b) (Held c d) Empty = refl
-both-assoc (Held a b) (Held c d) (Held e f) = cc (min_assoc a c e, max_assoc b d f)
+pub both-assoc : (r s u : Option Range) → both (both r s) u ≡ both r (both s u)
+both-assoc None s u = refl
+both-assoc (Some r) None u = refl
+both-assoc (Some r) (Some q) None = refl
+both-assoc (Some r) (Some q) (Some u) = cc (min_assoc r.low q.low u.low, max_assoc r.high q.high u.high)
 
-pub both-empty : (r : Range) → both r Empty ≡ r
-both-empty Empty = refl
-both-empty (Held a b) = refl
+pub both-empty : (r : Option Range) → both r None ≡ r
+both-empty None = refl
+both-empty (Some r) = refl
 
 -- The low of one hour's range is what the hour holds.
 pub low-hour : (z : ℤ) → low_of (hour_range z) ≡ z
@@ -44,10 +44,10 @@ range-halves l n s v b =
     rw (hours-halves l v b, map-append (hour_of n s) (hours l (left v)) (hours l (right v)))
     (look-append (map (hour_of n s) (hours l (left v))) (map (hour_of n s) (hours l (right v))))
 
-pub readings-both : (r s : Range) → Readings r → Readings s → Readings (both r s)
-readings-both Empty s p q = q
-readings-both (Held a b) Empty p q = p
-readings-both (Held a b) (Held c d) p q = omega (signed, min-parts a c, max-parts b d)
+pub readings-both : (r s : Option Range) → Readings r → Readings s → Readings (both r s)
+readings-both None s p q = q
+readings-both (Some r) None p q = p
+readings-both (Some r) (Some u) p q = omega (signed, min-parts r.low u.low, max-parts r.high u.high)
 
 -- An hour that holds a reading or a gap.
 readings-hour : (z : ℤ) → (is_reading z || is_gap z) ≡ true → Readings (hour_range z)

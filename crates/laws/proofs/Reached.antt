@@ -1,11 +1,11 @@
 -- What is reached at a node of the table of a series is the range of the node's hours. Assumes nothing.
-use Rattle.kit.proofs.{◌≡◌, ◌∙◌, List, ⊎_elim, ℕ, zero, suc, ◌+◌, ◌*◌, ◌/◌, ◌%◌, ◌^◌, ◌≤◌, ◌<◌, two-pow-succ}
+use Rattle.kit.proofs.{◌≡◌, ◌∙◌, List, ⊎_elim, ℕ, zero, suc, ◌+◌, ◌*◌, ◌/◌, ◌%◌, ◌^◌, ◌≤◌, ◌<◌, two-pow-succ, Option}
 use Rattle.kit.proofs.{eq-or-lt_of_le, arith, ℤ, eq-eqb, ne_eqb}
 use Rattle.words.specs.{declared.Range.Range, Readings}
-use Rattle.om3.specs.Document.{Holds, hour, hour_of, Node, InTree, root, left, right, start, range_of, Table}
-use Rattle.om3.specs.Document.{pair_code, table_of, coefficient_at, root_range, left_of, right_of, reached_at, reached}
-use Rattle.laws.proofs.{Tests.even-or-odd, Nodes.pair-yes, Nodes.pair-no, Ranges.range-halves}
-use Rattle.laws.proofs.{Ranges.readings-range, Down.halves-back, Down.root-back, Down.hours-back}
+use Rattle.om3.specs.Document.{Holds, hour, hour_of, Node, InTree, root, left, right, start, range_of, Table, pair_code}
+use Rattle.om3.specs.Document.{table_of, coefficient_at, root_range, left_of, right_of, reached_at, reached}
+use Rattle.laws.proofs.{Tests.even-or-odd, Nodes.pair-yes, Nodes.pair-no, Ranges.range-halves, Ranges.readings-range}
+use Rattle.laws.proofs.{Down.halves-back, Down.root-back, Down.hours-back}
 use Rattle.laws.proofs.Places.{root-low, root-high, low-place, high-place, code-place, hour-range}
 
 -- What is reached at a node's halves, in any table.
@@ -28,7 +28,7 @@ module _ (l n : ℕ) (s : List ℤ) (holds : Holds n s) where
   abbrev T : Table
   T = table_of l n s
 
-  abbrev R : Node → Range
+  abbrev R : Node → Option Range
   R v = range_of l n s v
 
   readings : (v : Node) → Readings (R v)
@@ -40,15 +40,15 @@ module _ (l n : ℕ) (s : List ℤ) (holds : Holds n s) where
         rw (pair-no l v b, low-place l n s v i b, high-place l n s v i b, range-halves l n s v (omega arith))
         (halves-back (R (left v)) (R (right v)) (readings (left v)) (readings (right v)))
 
-    abbrev held : Node → ℤ
-    held u = hour_of n s (hour (start l u))
+    abbrev hour_at : Node → ℤ
+    hour_at u = hour_of n s (hour (start l u))
 
     pair-halves : suc v.level ≡ l → (left_of l T v (R v) ≡ R (left v)) × (right_of l T v (R v) ≡ R (right v))
     unfolding pair_code
     pair-halves h =
         rw (pair-yes l v h, code-place l n s v i h, range-halves l n s v (omega arith))
         (rw (hour-range l n s (left v) h, hour-range l n s (right v) h)
-        (hours-back (held (left v)) (held (right v))))
+        (hours-back (hour_at (left v)) (hour_at (right v))))
 
     step-halves : v.level < l → (left_of l T v (R v) ≡ R (left v)) × (right_of l T v (R v) ≡ R (right v))
     step-halves b = ⊎_elim pair-halves details-halves (eq-or-lt_of_le b)

@@ -1,8 +1,7 @@
 -- What the bytes of a written record state: its fields and its table are read back as they were written. A field stands
 -- where the bytes before it end; the header has seven bytes and each coefficient three. Assumes nothing.
 use Rattle.kit.proofs.{◌≡◌, refl, sym, ap, ◌∙◌, false, List, [], ◌∷◌, ◌++◌, map, flat_map, ℕ, zero, suc, ◌+◌, ◌*◌, ◌/◌}
-use Rattle.kit.proofs.{◌≤◌, ◌<◌, arith, ℤ, pos, length, get_or, take, drop, length-append, length-take-le}
-use Rattle.kit.proofs.{get_or-take}
+use Rattle.kit.proofs.{◌≤◌, ◌<◌, arith, ℤ, pos, length, get_or, take, drop, length-append, length-take-le, get_or-take}
 use Rattle.kit.proofs.{drop_at, drop-drop, take_all}
 use Rattle.words.specs.{largest_hours, version}
 use Rattle.om3.specs.Document.{up_from, P, Table, table_short, Bytes, bytes_of, InThree, three_bytes, signed_from}

@@ -5,8 +5,7 @@ use Rattle.kit.proofs.{length, take, drop, length-drop, length-take-le, take-add
 use Rattle.words.specs.{version}
 use Rattle.om3.specs.Document.{up_from, P, passes, in_order, Bytes, bytes_of, number_from, three_bytes, bytes_at}
 use Rattle.om3.specs.Document.{record_length, record_of, header_size, hours_in, coefficient_in, table_in}
-use Rattle.om3.specs.Document.{opening_checks}
-use Rattle.om3.specs.Document.{Openable}
+use Rattle.om3.specs.Document.{opening_checks, Openable}
 use Rattle.laws.proofs.{Lists.map-up-length, ThreeBytes.three-forth, RecordsOpened.opens-formed}
 use Rattle.laws.proofs.Bytes.{bytes_take, bytes_drop, bytes-forth}
 

@@ -1,8 +1,8 @@
 -- Opening takes a list of numbers exactly if its fields and its length fit one another; a written record is taken.
 -- Assumes nothing.
-use Rattle.kit.proofs.{◌≡◌, sym, false, not, List, [], ◌∷◌, ◌↔◌, ℕ, ◌+◌, ◌*◌, ◌≤◌, ◌<◌, arith, leb, ltb, eqb, pos}
+use Rattle.kit.proofs.{◌≡◌, sym, false, not, List, [], ◌∷◌, ◌↔◌, ℕ, ◌+◌, ◌*◌, ◌≤◌, ◌<◌, arith, leb, ltb, eqb, pos, Err}
 use Rattle.kit.proofs.{length, get_or, le-ltb, leb-false, ltb-false, eq-eqb, eqb-true, not-false}
-use Rattle.words.specs.{largest_hours, version, declared.Asking.Asking, declared.Refusal.Refusal}
+use Rattle.words.specs.{largest_hours, version, declared.Refusal.Refusal}
 use Rattle.words.specs.declared.Refusal.TheVariants.{BadHours, CutShort, BadVersion, BadLength, BytesAfter}
 use Rattle.om3.specs.Document.{bad_hours, P, Table, passes, refuses, in_order, table_short, record_length, record_of}
 use Rattle.om3.specs.Document.{header_size, length_in, version_in, hours_in, coefficient_in, table_in, opening_checks}
@@ -76,7 +76,7 @@ asking-opened r p opens =
 
 -- One that it refuses is refused by the same cause.
 pub asking-refused : (r : List ℕ) (p : ℕ) (why : Refusal) → in_order (opening_checks r) ≡ refuses why
-    → asking r p ≡ Asking.Refused why
+    → asking r p ≡ Err why
 unfolding asking
 asking-refused r p why e = rw (in-order-append (opening_checks r) (check_place (P (hours_in r)) p ∷ []), e)
 

@@ -6,10 +6,9 @@ use Rattle.om3.specs.Document.{Series, levels, P, Table, coefficient, code_of_pl
 use Rattle.om3.specs.Document.{passes, and_then, in_order, sound_table, table_short, check_room, examine_table, Bytes}
 use Rattle.om3.specs.Document.{record_of, HasRecord, header_size, hours_in, coefficient_in, table_in, opening_checks}
 use Rattle.om3.specs.Document.{unpacking_checks}
-use Rattle.laws.proofs.{Lists.map-up-length, Levels.levels-some, Lent.not_short, Making.good-some}
-use Rattle.laws.proofs.{Threes.sound-threes, Records.record-hours-in, Records.record-table-in}
-use Rattle.laws.proofs.{RecordsOpened.opens-formed, RecordsOpened.record-opens, RecordsForth.part_length}
-use Rattle.laws.proofs.{RecordsForth.record-forth}
+use Rattle.laws.proofs.{Lists.map-up-length, Levels.levels-some, Lent.not_short, Making.good-some, Threes.sound-threes}
+use Rattle.laws.proofs.{Records.record-hours-in, Records.record-table-in, RecordsOpened.opens-formed}
+use Rattle.laws.proofs.{RecordsOpened.record-opens, RecordsForth.part_length, RecordsForth.record-forth}
 use Rattle.laws.proofs.Examined.{then-first, then-passes, in-order-append, examine-sound}
 use Rattle.laws.proofs.Demand2.{made-has, made-turned, has-sound, turned-series, turned-has}
 

@@ -1,33 +1,35 @@
 -- What a sound pair says: its hours join to its range, each is one reading or a gap, and they give its code back.
 -- Assumes nothing.
-use Rattle.kit.proofs.{◌≡◌, refl, sym, true, false, ◌&&◌, ◌||◌, ⊎_elim, ℕ, eqb, ℤ, lt_z, eqb-true}
-use Rattle.signed.specs.{min_z, max_z, eq_z}
+use Rattle.kit.proofs.{◌≡◌, refl, sym, true, false, ◌&&◌, ◌||◌, ⊎_elim, ℕ, eqb, ℤ, lt_z, eqb-true, None, Some, Option}
+use Rattle.words.specs.Said.{held}
+use Rattle.std.specs.Int.{int_min, int_max}
+use Rattle.signed.specs.{eq_z}
 use Rattle.signed.proofs.{min-parts, max-parts, eq_z-true, signed}
 use Rattle.words.specs.{low_of, Readings}
-use Rattle.words.specs.declared.{Range.Range, Range.TheVariants.Empty, Range.TheVariants.Held}
+use Rattle.words.specs.declared.{Range.Range}
 use Rattle.om3.specs.Document.{is_gap, hour_range, code, first_of_pair, second_of_pair, sound_code}
 use Rattle.laws.proofs.Tests.{and_left, and_right, or_cases}
 use Rattle.laws.proofs.SoundDetails.{Halves, low-no-gap, high-no-gap}
 
 -- A pair: its hours, each a single reading or a gap, and its code given back by them.
-pub record Coded (r : Range) (c : ℕ) : Type 0 where
+pub record Coded (r : Option Range) (c : ℕ) : Type 0 where
   pub halves : Halves r (first_of_pair r c) (second_of_pair r c)
   pub first : hour_range (low_of (first_of_pair r c)) ≡ first_of_pair r c
   pub second : hour_range (low_of (second_of_pair r c)) ≡ second_of_pair r c
   pub back : code (low_of (first_of_pair r c)) (low_of (second_of_pair r c)) ≡ c
 
-module _ (a b : ℤ) (p : Readings (Held a b)) where
+module _ (a b : ℤ) (p : Readings (held a b)) where
   abbrev A : is_gap a ≡ false
   A = low-no-gap a b p
 
   abbrev B : is_gap b ≡ false
   B = high-no-gap a b p
 
-  code-0 : Coded (Held a b) 0
+  code-0 : Coded (held a b) 0
   code-0 =
       let f : lt_z b a ≡ false = omega signed in
-      let lows : min_z b a ≡ a = omega (signed, min-parts b a) in
-      let highs : max_z b a ≡ b = omega (signed, max-parts b a) in
+      let lows : int_min b a ≡ a = omega (signed, min-parts b a) in
+      let highs : int_max b a ≡ b = omega (signed, max-parts b a) in
       record {
         halves = record { joined = cc; readings-left = omega signed; readings-right = omega signed };
         first = rw B;
@@ -35,10 +37,10 @@ module _ (a b : ℤ) (p : Readings (Held a b)) where
         back = rw (B, A, f);
       }
 
-  code-1 : lt_z a b ≡ true → Coded (Held a b) 1
+  code-1 : lt_z a b ≡ true → Coded (held a b) 1
   code-1 f =
-      let lows : min_z a b ≡ a = omega (signed, min-parts a b) in
-      let highs : max_z a b ≡ b = omega (signed, max-parts a b) in
+      let lows : int_min a b ≡ a = omega (signed, min-parts a b) in
+      let highs : int_max a b ≡ b = omega (signed, max-parts a b) in
       record {
         halves = record { joined = cc; readings-left = omega signed; readings-right = omega signed };
         first = rw A;
@@ -46,7 +48,7 @@ module _ (a b : ℤ) (p : Readings (Held a b)) where
         back = rw (B, A, f);
       }
 
-  code-2 : a ≡ b → Coded (Held a b) 2
+  code-2 : a ≡ b → Coded (held a b) 2
   code-2 e =
       record {
         halves = record { joined = cc; readings-left = omega signed; readings-right = tt };
@@ -55,7 +57,7 @@ module _ (a b : ℤ) (p : Readings (Held a b)) where
         back = rw A;
       }
 
-  code-3 : a ≡ b → Coded (Held a b) 3
+  code-3 : a ≡ b → Coded (held a b) 3
   code-3 e =
       record {
         halves = record { joined = cc; readings-left = tt; readings-right = omega signed };
@@ -64,7 +66,7 @@ module _ (a b : ℤ) (p : Readings (Held a b)) where
         back = rw A;
       }
 
-  held-coded : (c : ℕ) → sound_code (Held a b) c ≡ true → Coded (Held a b) c
+  held-coded : (c : ℕ) → sound_code (held a b) c ≡ true → Coded (held a b) c
   held-coded c h =
       ⊎_elim
       (λ m. ⊎_elim
@@ -77,12 +79,12 @@ module _ (a b : ℤ) (p : Readings (Held a b)) where
       (or_cases (eqb c 2) (eqb c 3) (and_left (eqb c 2 || eqb c 3) (eq_z a b) m)))
       (or_cases (eqb c 0 || (eqb c 1 && lt_z a b)) ((eqb c 2 || eqb c 3) && eq_z a b) h)
 
-pub coded : (r : Range) (c : ℕ) → Readings r → sound_code r c ≡ true → Coded r c
-coded Empty c p h =
+pub coded : (r : Option Range) (c : ℕ) → Readings r → sound_code r c ≡ true → Coded r c
+coded None c p h =
     record {
       halves = record { joined = refl; readings-left = tt; readings-right = tt };
       first = refl;
       second = refl;
       back = sym (eqb-true c 4 h);
     }
-coded (Held a b) c p h = held-coded a b p c h
+coded (Some r) c p h = held-coded r.low r.high p c h

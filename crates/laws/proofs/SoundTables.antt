@@ -1,19 +1,19 @@
 -- In a sound table every range reached is one of readings, the ranges of a node's halves join to its own, and hours
 -- come out as single readings or gaps, from hour n on as gaps. Assumes nothing.
-use Rattle.kit.proofs.{◌≡◌, ◌∙◌, Bool, true, ◌&&◌, ⊎_elim, ℕ, zero, suc, ◌-◌, ◌/◌, ◌^◌, ◌≤◌, ◌<◌, two-pow-succ}
+use Rattle.kit.proofs.{◌≡◌, ◌∙◌, Bool, true, ◌&&◌, ⊎_elim, ℕ, zero, suc, ◌-◌, ◌/◌, ◌^◌, ◌≤◌, ◌<◌, two-pow-succ, Option}
 use Rattle.kit.proofs.{eq-or-lt_of_le, arith, ℤ}
 use Rattle.words.specs.{low_of, Readings, declared.Range.Range}
 use Rattle.om3.specs.Document.{every, hour, Node, InTree, number, left, right, start, first_hour, hour_range, Table}
 use Rattle.om3.specs.Document.{left_half, right_half, first_of_pair, second_of_pair, coefficient_at, low_detail_at}
 use Rattle.om3.specs.Document.{high_detail_at, code_at, reached_at, reached, sound_root_values, sound_code, gap_from}
 use Rattle.om3.specs.Document.{sound_pair, sound_node, table_nodes, sound_table}
-use Rattle.laws.proofs.{NodeLists.each-in-table, SoundCodes.Coded, SoundCodes.coded, Tests.and_left}
-use Rattle.laws.proofs.{Tests.and_right, Tests.even-or-odd, Nodes.pair-yes, Nodes.pair-no, Nodes.start-hour}
+use Rattle.laws.proofs.{NodeLists.each-in-table, SoundCodes.Coded, SoundCodes.coded, Tests.and_left, Tests.and_right}
+use Rattle.laws.proofs.{Tests.even-or-odd, Nodes.pair-yes, Nodes.pair-no, Nodes.start-hour}
 use Rattle.laws.proofs.Reached.{reached-left, reached-right}
 use Rattle.laws.proofs.SoundDetails.{Halves, root-values, Details, details}
 
 -- A single hour as it comes out: one reading or a gap, and from hour n on a gap.
-pub record HourOut (n k : ℕ) (r : Range) : Type 0 where
+pub record HourOut (n k : ℕ) (r : Option Range) : Type 0 where
   pub single : hour_range (low_of r) ≡ r
   pub late : gap_from n (hour k) r ≡ true
 

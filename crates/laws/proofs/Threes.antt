@@ -1,9 +1,10 @@
 -- Each coefficient of a sound table has room in three bytes: it is a root value, a detail of two ranges of readings, or
 -- a mark, and the largest of these is the mark of a gap. Assumes nothing.
-use Rattle.kit.proofs.{◌≡◌, true, ℕ, zero, suc, ◌^◌, ◌≤◌, ◌<◌, arith, ℤ, pos, neg_ℤ, ◌-ℤ◌, ◌≤ℤ◌, get_or}
+use Rattle.kit.proofs.{◌≡◌, true, ℕ, zero, suc, ◌^◌, ◌≤◌, ◌<◌, arith, ℤ, pos, neg_ℤ, ◌-ℤ◌, ◌≤ℤ◌, get_or, None, Option}
+use Rattle.kit.proofs.{Some}
 use Rattle.signed.proofs.{sub_parts, signed}
 use Rattle.words.specs.{largest_detail, low_of, high_of, Readings}
-use Rattle.words.specs.declared.{Range.Range, Range.TheVariants.Empty, Range.TheVariants.Held}
+use Rattle.words.specs.declared.{Range.Range}
 use Rattle.om3.specs.Document.{Table, low_detail, high_detail, left_half, right_half, root_range, coefficient_at}
 use Rattle.om3.specs.Document.{sound_table, InThree}
 use Rattle.laws.proofs.Nodes.{detail-places}
@@ -14,24 +15,25 @@ detail-three : (z : ℤ) → neg_ℤ (pos largest_detail) ≤ℤ z → z ≤ℤ 
 detail-three z a b = (omega signed, omega signed)
 
 -- The low and the high of a range of readings, and the details of two such ranges.
-ends-three : (r : Range) → Readings r → InThree (low_of r) × InThree (high_of r)
-ends-three Empty p = ((omega signed, omega signed), (omega signed, omega signed))
-ends-three (Held a b) p = (detail-three a (omega signed) (omega signed), detail-three b (omega signed) (omega signed))
+ends-three : (r : Option Range) → Readings r → InThree (low_of r) × InThree (high_of r)
+ends-three None p = ((omega signed, omega signed), (omega signed, omega signed))
+ends-three (Some r) p =
+    (detail-three r.low (omega signed) (omega signed), detail-three r.high (omega signed) (omega signed))
 
-details-three : (r s : Range) → Readings r → Readings s → InThree (low_detail r s) × InThree (high_detail r s)
-details-three Empty Empty p q = ((omega signed, omega signed), (omega signed, omega signed))
-details-three Empty (Held c d) p q = ((omega signed, omega signed), (omega signed, omega signed))
-details-three (Held a b) Empty p q = ((omega signed, omega signed), (omega signed, omega signed))
-details-three (Held a b) (Held c d) p q = (
-  detail-three (a -ℤ c) (omega (signed, sub_parts a c)) (omega (signed, sub_parts a c)),
-  detail-three (b -ℤ d) (omega (signed, sub_parts b d)) (omega (signed, sub_parts b d)),
+details-three : (r s : Option Range) → Readings r → Readings s → InThree (low_detail r s) × InThree (high_detail r s)
+details-three None None p q = ((omega signed, omega signed), (omega signed, omega signed))
+details-three None (Some r) p q = ((omega signed, omega signed), (omega signed, omega signed))
+details-three (Some r) None p q = ((omega signed, omega signed), (omega signed, omega signed))
+details-three (Some r) (Some u) p q = (
+  detail-three (r.low -ℤ u.low) (omega (signed, sub_parts r.low u.low)) (omega (signed, sub_parts r.low u.low)),
+  detail-three (r.high -ℤ u.high) (omega (signed, sub_parts r.high u.high)) (omega (signed, sub_parts r.high u.high)),
 )
 
 -- So root values and details that are sound.
 roots-three : (a b : ℤ) → RootValues a b → InThree a × InThree b
 roots-three a b w = rw (w.low, w.high) at (ends-three (root_range a b) w.readings)
 
-sound-details-three : (r : Range) (d e : ℤ) → Details r d e → InThree d × InThree e
+sound-details-three : (r : Option Range) (d e : ℤ) → Details r d e → InThree d × InThree e
 sound-details-three r d e w =
     rw (w.low, w.high) at
     (details-three (left_half r d e) (right_half r d e) w.halves.readings-left w.halves.readings-right)

@@ -5,8 +5,8 @@ use borrow.Author.Tests.{eq-eqb, ne_eqb}
 use Rattle.signed.proofs.{signed, sub_parts}
 use Rattle.words.specs.{gap, declared.Timestamp.Timestamp, declared.Reading.Reading}
 use Rattle.om3.specs.Document.{up_from, keep, hour, hours_from, passes, in_order, count_of, recorded, recorded_hours}
-use Rattle.om3.specs.Document.{residue, step, weights_after, rebuilt, held_at, rebuilt_series, check_flags}
-use Rattle.om3.specs.Document.{check_start, check_weights, rebuilding_checks, TrueLog, true_series, short, bad_hours}
+use Rattle.om3.specs.Document.{residue, step, weights_after, rebuilt, held_at, rebuilt_series, check_flags, check_start}
+use Rattle.om3.specs.Document.{check_weights, rebuilding_checks, TrueLog, true_series, short, bad_hours}
 use Rattle.laws.proofs.{Tests.chosen, Tests.by-test, Lists.kept-hours, Turns.turned, Turns.step-true}
 use Rattle.laws.proofs.{Turns.residue-small, HourChecks.each-passes}
 

@@ -1,19 +1,18 @@
 -- A sound table is the table of the hours that it turns back to. Assumes nothing.
 use Rattle.kit.proofs.{◌≡◌, refl, sym, ap, ◌∙◌, true, List, ℕ, zero, suc, ◌+◌, ◌-◌, ◌/◌, ◌^◌, ◌≤◌, ◌<◌, arith, ltb, ℤ}
-use Rattle.kit.proofs.{length, get_or, ltb-true}
+use Rattle.kit.proofs.{None, Option, Some, length, get_or, ltb-true}
 use Rattle.signed.proofs.{clash}
 use Rattle.words.specs.{gap, low_of, high_of}
-use Rattle.words.specs.declared.{Range.Range, Range.TheVariants.Empty, Range.TheVariants.Held}
+use Rattle.words.specs.declared.{Range.Range}
 use Rattle.om3.specs.Document.{hour, hour_of, Node, InTree, number, root, left, right, start, hour_range, is_empty}
 use Rattle.om3.specs.Document.{range_of, Table, pair_code, code_of_place, table_of, coefficient_at, low_detail_at}
-use Rattle.om3.specs.Document.{high_detail_at}
-use Rattle.om3.specs.Document.{code_at, reached_at, reached, turned_back, sound_table}
-use Rattle.laws.proofs.{Tests.by-test, Lists.map-up-length, Lists.map-up-from-0, Levels.half_pow}
-use Rattle.laws.proofs.{Nodes.detail-places, Ranges.low-hour, Ranges.range-halves, SoundDetails.root-values}
+use Rattle.om3.specs.Document.{high_detail_at, code_at, reached_at, reached, turned_back, sound_table}
+use Rattle.laws.proofs.{Tests.by-test, Lists.map-up-length, Lists.map-up-from-0, Levels.half_pow, Nodes.detail-places}
+use Rattle.laws.proofs.{Ranges.low-hour, Ranges.range-halves, SoundDetails.root-values}
 use Rattle.laws.proofs.Nodes.{root_in, left_in, right-in, start-hour, node-of-number}
 use Rattle.laws.proofs.Places.{root-low, root-high, low-place, high-place, hour-range}
-use Rattle.laws.proofs.SoundTables.{root-sound, node-details, left-details, right-details, node-coded}
-use Rattle.laws.proofs.SoundTables.{left-coded, right-coded, readings-reached, halves-joined, hour-out}
+use Rattle.laws.proofs.SoundTables.{root-sound, node-details, left-details, right-details, node-coded, left-coded}
+use Rattle.laws.proofs.SoundTables.{right-coded, readings-reached, halves-joined, hour-out}
 
 -- What stands at hour k of what a table turns back to.
 pub turned-length : (l : ℕ) (t : Table) (n : ℕ) → length (turned_back l t n) ≡ n
@@ -36,9 +35,9 @@ module _ (l n : ℕ) (t : Table) (ok : sound_table l n t ≡ true) (o : 1 ≤ l)
       by-test (ltb k n) (λ z. rw (z, turned-at l t n k (ltb-true k n z)) out.single)
       (λ z. rw z (emptied (reached_at l t l k) (rw z at out.late)))
     where
-      emptied : (r : Range) → is_empty r ≡ true → Empty ≡ r
-      emptied Empty z = refl
-      emptied (Held a c) z = clash z
+      emptied : (r : Option Range) → is_empty r ≡ true → None ≡ r
+      emptied None z = refl
+      emptied (Some r) z = clash z
 
   -- The range of each node is what was reached there, from the hours up.
   ranges-reached : (h : ℕ) (v : Node) → InTree l v → v.level + h ≡ l → range_of l n S v ≡ reached l t v

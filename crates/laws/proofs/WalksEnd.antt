@@ -1,8 +1,9 @@
 -- Where what is reached at each node is the range of its hours, the walk to the first reading from a node that has one
 -- ends at the first reading of the node's hours, and the walk to the last at the last: the half taken at each step has
 -- a reading, and its first or last is the node's own. Assumes nothing.
-use Rattle.kit.proofs.{◌≡◌, refl, sym, ap, ◌∙◌, true, false, List, ℕ, zero, suc, ◌+◌, ◌<◌, arith, ℤ}
-use Rattle.words.specs.{low_of, declared.Timestamp.Timestamp, declared.Reading.Reading, declared.Answer.Answer}
+use Rattle.kit.proofs.{◌≡◌, refl, sym, ap, ◌∙◌, true, false, List, ℕ, zero, suc, ◌+◌, ◌<◌, arith, ℤ, Option}
+use Rattle.words.specs.declared.Summary.{Summary}
+use Rattle.words.specs.{low_of, declared.Timestamp.Timestamp, declared.Reading.Reading}
 use Rattle.om3.specs.Document.{hour, hour_of, Node, InTree, left, right, range_of, Table, reached, has_reading}
 use Rattle.om3.specs.Document.{walk_end, towards_first, towards_last, reading_at, reading_of}
 use Rattle.laws.proofs.{Tests.chosen, Ranges.low-hour, Places.hour-range, Answers.joined-right}
@@ -30,11 +31,11 @@ module _ (l : ℕ) (t : Table) (v : Node) (i : InTree l v) (b : v.level < l) whe
   last_taken = chosen (Taken l v) (has_reading l t (right v)) (λ e. right-taken i b) (λ e. left-taken i b)
 
 module _ (l n : ℕ) (s : List ℤ) (t : Table) where
-  abbrev A : Node → Answer
+  abbrev A : Node → Option Summary
   A v = node_answer l n s v
 
   -- From node v to node u, one of its halves: it has a reading, and what it shows as first, or last, v shows too.
-  record Step (Shows : Answer → Reading → Type 0) (v u : Node) : Type 0 where
+  record Step (Shows : Option Summary → Reading → Type 0) (v u : Node) : Type 0 where
     reading : has_reading l t u ≡ true
     shows : (r : Reading) → Shows (A u) r → Shows (A v) r
 
@@ -48,7 +49,7 @@ module _ (l n : ℕ) (s : List ℤ) (t : Table) where
     hour-found v i z e = ap found (sym (answer-hour l n s v z)) ∙ sym (reading-found l n s t ranges v i) ∙ e
 
     -- A walk whose every step shows what it came from ends at what its starting node shows.
-    module _ (Shows : Answer → Reading → Type 0) (half : Node → Node)
+    module _ (Shows : Option Summary → Reading → Type 0) (half : Node → Node)
         (at-hour : (h : Timestamp) → found (hour_answer n s h) ≡ true → Shows (hour_answer n s h) (reading_of n s h))
         (taken : (v : Node) → InTree l v → v.level < l → Taken l v (half v))
         (step : (v : Node) → InTree l v → v.level < l → has_reading l t v ≡ true → Step Shows v (half v)) where
@@ -66,7 +67,7 @@ module _ (l n : ℕ) (s : List ℤ) (t : Table) where
 
     module _ (v : Node) (i : InTree l v) (b : v.level < l) (r : has_reading l t v ≡ true) where
       -- A half that answers for the whole node.
-      whole-step : (Shows : Answer → Reading → Type 0) (u : Node) → InTree l u → A v ≡ A u → Step Shows v u
+      whole-step : (Shows : Option Summary → Reading → Type 0) (u : Node) → InTree l u → A v ≡ A u → Step Shows v u
       whole-step Shows u j e =
           record {
             reading =

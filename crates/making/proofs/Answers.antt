@@ -1,10 +1,10 @@
 -- What `make` promises at each of its answers: the checks in their order, and the whole table. Assumes nothing.
-use Rattle.kit.proofs.{◌≡◌, ◌∙◌, true, false, ◌||◌, List, ℕ, ◌+◌, ◌*◌, ◌/◌, ◌^◌, ◌≤◌, ◌<◌, arith, ℤ, length, set, mag}
-use Rattle.kit.proofs.{lt-ltb, le-ltb}
-use Rattle.words.specs.{low_of, high_of, declared.Range.Range, declared.Refusal.Refusal, declared.Taking.Taking}
+use Rattle.kit.proofs.{◌≡◌, ◌∙◌, true, false, ◌||◌, List, ℕ, ◌+◌, ◌*◌, ◌^◌, ◌≤◌, ◌<◌, arith, ℤ, length, set, mag}
+use Rattle.kit.proofs.{Option, Err, Ok, lt-ltb, le-ltb}
+use Rattle.words.specs.{low_of, high_of, declared.Range.Range, declared.Refusal.Refusal}
 use Rattle.words.specs.declared.Refusal.TheVariants.{BadHours, ShortBuffer}
-use Rattle.om3.specs.Document.{bad_hours, levels, P, root, Table, lent, refuses, in_order, answer_by, short}
-use Rattle.om3.specs.Document.{table_short, check_readings, making_checks}
+use Rattle.om3.specs.Document.{bad_hours, levels, P, root, Table, lent, refuses, in_order, short, table_short}
+use Rattle.om3.specs.Document.{check_readings, making_checks, checked_by}
 use Rattle.sizes.specs.Lent.{TableLent}
 use Rattle.signed.proofs.{reads-back}
 use Rattle.laws.proofs.Levels.{levels-some, 2≤P, P-even}
@@ -18,9 +18,6 @@ module _ (n p : ℕ) (cs : List ℤ) (ks : List ℕ) (room : TableLent n cs ks) 
   pub root-two : 2 ≤ p
   root-two = omega (arith, 2≤P n)
 
-  pub root-room : (1 + 1) * (p / 2) ≤ length cs
-  root-room = omega (arith, room.coefficients, P-even n)
-
   pub root-hours : 0 + p ≤ 2 * length ks
   root-hours = omega (arith, room.codes, P-even n)
 
@@ -31,11 +28,11 @@ module _ (n p : ℕ) (cs : List ℤ) (ks : List ℕ) (room : TableLent n cs ks) 
   high-place kept = omega (arith, room.coefficients, 2≤P n)
 
 -- The recursion over node 1, with its low x and its high y written, leaves the table.
-module _ (n : ℕ) (s : List ℤ) (p : ℕ) (cs cs₁ : List ℤ) (ks ks₁ : List ℕ) (r : Range) where
-  pub whole-table : Filled n s 1 0 p cs cs₁ ks ks₁ r → TableLent n cs ks → p ≡ P n → {x y : ℤ} → x ≡ low_of r
+module _ (n : ℕ) (s : List ℤ) (p : ℕ) (cs cs₁ : List ℤ) (ks ks₁ : List ℕ) (r : Option Range) where
+  pub whole_table : Filled n s 1 0 p cs cs₁ ks ks₁ r → TableLent n cs ks → p ≡ P n → {x y : ℤ} → x ≡ low_of r
       → y ≡ high_of r → mag x < 2 ^ 31 → mag y < 2 ^ 31
       → Tabled n s cs ks (set (set cs₁ 0 (back x)) 1 (back y)) ks₁
-  whole-table done room e {x} {y} ex ey xm ym =
+  whole_table done room e {x} {y} ex ey xm ym =
       let l = levels n in
       let at = done.below l root (rw e (root-located l)) in
       record {
@@ -50,22 +47,22 @@ module _ (n : ℕ) (s : List ℤ) (cs : List ℤ) (ks : List ℕ) where
   T = lent cs ks
 
   -- A refusal leaves both buffers as they were.
-  refused : (why : Refusal) → in_order (making_checks n s T) ≡ refuses why → Made n s cs ks cs ks (Taking.Refused why)
+  refused : (why : Refusal) → in_order (making_checks n s T) ≡ refuses why → Made n s cs ks cs ks (Err why)
   refused why e = record { answer = rw e; coefficients = rw e; codes = rw e }
 
-  pub bad-hours : bad_hours n ≡ true → Made n s cs ks cs ks (Taking.Refused BadHours)
+  pub bad-hours : bad_hours n ≡ true → Made n s cs ks cs ks (Err BadHours)
   bad-hours b = refused BadHours (unfold in_order in rw b)
 
   module _ (good : bad_hours n ≡ false) where
     -- Any of the three buffers too short.
-    no_room : (short (length s) n || table_short n T) ≡ true → Made n s cs ks cs ks (Taking.Refused ShortBuffer)
+    no_room : (short (length s) n || table_short n T) ≡ true → Made n s cs ks cs ks (Err ShortBuffer)
     no_room e = refused ShortBuffer (unfold in_order in rw (good, e))
 
-    pub few-readings : length s < n → Made n s cs ks cs ks (Taking.Refused ShortBuffer)
+    pub few-readings : length s < n → Made n s cs ks cs ks (Err ShortBuffer)
     few-readings h = no_room (rw (lt-ltb (length s) n h))
 
     module _ (read : n ≤ length s) where
-      pub short-table : table_short n T ≡ true → Made n s cs ks cs ks (Taking.Refused ShortBuffer)
+      pub short-table : table_short n T ≡ true → Made n s cs ks cs ks (Err ShortBuffer)
       short-table h = no_room (rw (le-ltb (length s) n read, h))
 
       module _ (room : table_short n T ≡ false) where
@@ -73,13 +70,13 @@ module _ (n : ℕ) (s : List ℤ) (cs : List ℤ) (ks : List ℕ) where
         last = making-decided n good s T (rw (le-ltb (length s) n read, room))
 
         pub bad-reading : (why : Refusal)
-            → Taking.Refused why ≡ answer_by Taking.Refused (check_readings n s) Taking.Taken
-            → Made n s cs ks cs ks (Taking.Refused why)
+            → Err why ≡ checked_by (check_readings n s)
+            → Made n s cs ks cs ks (Err why)
         bad-reading why e = refused why (last ∙ refused-refuses (check_readings n s) why e)
 
-        pub taken : Taking.Taken ≡ answer_by Taking.Refused (check_readings n s) Taking.Taken
+        pub taken : Ok tt ≡ checked_by (check_readings n s)
             → (cs₁ : List ℤ) (ks₁ : List ℕ)
-            → Tabled n s cs ks cs₁ ks₁ → Made n s cs ks cs₁ ks₁ Taking.Taken
+            → Tabled n s cs ks cs₁ ks₁ → Made n s cs ks cs₁ ks₁ (Ok tt)
         taken e cs₁ ks₁ t =
             let ok = last ∙ taken-passes (check_readings n s) e in
             record { answer = rw ok; coefficients = rw ok t.coefficients; codes = rw ok t.codes }

@@ -3,8 +3,8 @@
 use Rattle.kit.proofs.{◌≡◌, refl, ◌∙◌, ⊎_elim, ℕ, suc, ◌+◌, ◌-◌, ◌*◌, ◌/◌, ◌^◌, ◌≤◌, ◌<◌, arith, pow_mono}
 use Rattle.om3.specs.Document.{Node, root, left, right, width}
 use Rattle.laws.proofs.Tests.{below_or_not}
-use Rattle.laws.proofs.Nodes.{start-root, width-root, width-half, width-right, start_left, start_right}
-use Rattle.laws.proofs.Nodes.{number-left, number-right, left_in, right-in}
+use Rattle.laws.proofs.Nodes.{start-root, width-root, width-half, width-right, start_left, start_right, number-left}
+use Rattle.laws.proofs.Nodes.{number-right, left_in, right-in}
 use Rattle.node.specs.Located.{Located}
 
 pub root-located : (l : ℕ) → Located l root 1 0 (2 ^ l)

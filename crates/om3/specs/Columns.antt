@@ -7,10 +7,10 @@
 --   column_hours x      the hours of a column, in order
 --   no_hour x           whether a column has none
 --   edges_checks        the checks of the call for column edges; edges n a b w k, what it answers
-use Rattle.std.specs.Prelude.{Bool, ◌&&◌, List, [], ◌∷◌, ℕ, ◌+◌, ◌-◌, ◌*◌, ◌/◌, leb, ltb}
+use Rattle.std.specs.Prelude.{Bool, ◌&&◌, List, [], ◌∷◌, ℕ, ◌+◌, ◌-◌, ◌*◌, ◌/◌, leb, ltb, Err, Ok, Result}
+use Rattle.words.specs.declared.Refusal.{Refusal}
 use Rattle.words.specs.declared.Timestamp.{Timestamp}
 use Rattle.words.specs.declared.Column.{Column}
-use Rattle.words.specs.declared.Edges.{Edges}
 use Rattle.om3.specs.Series.{hour, hours_from}
 use Rattle.om3.specs.Checks.{Check, in_order, answer_by}
 use Rattle.om3.specs.Refusals.{check_hours, check_window, check_column}
@@ -44,5 +44,5 @@ no_hour x = leb x.upto.0 x.from.0
 abbrev pub edges_checks : (n a b w k : ℕ) → List Check
 edges_checks n a b w k = check_hours n ∷ check_window n a b ∷ check_column w k ∷ []
 
-unfoldable pub edges : (n a b w k : ℕ) → Edges
-edges n a b w k = answer_by Edges.Refused (in_order (edges_checks n a b w k)) (Edges.Hours (column a b w k))
+unfoldable pub edges : (n a b w k : ℕ) → Result Column Refusal
+edges n a b w k = answer_by Err (in_order (edges_checks n a b w k)) (Ok (column a b w k))

@@ -7,10 +7,11 @@
 --   days_of n               the days of n hours
 --   added_by change         what a day adds to the sum of all days
 --   span_of answer          last reading minus first reading of an answer; 0, if it has none
-use Rattle.std.specs.Prelude.{cond, List, [], ◌∷◌, ℕ, ◌+◌, ◌*◌, min, eqb, ltb, ℤ, pos, ◌-ℤ◌}
+use Rattle.std.specs.Prelude.{cond, List, [], ◌∷◌, ℕ, ◌+◌, ◌*◌, min, eqb, ltb, ℤ, pos, ◌-ℤ◌, Err, None, Ok, Option}
+use Rattle.std.specs.Prelude.{Result, Some}
+use Rattle.words.specs.declared.Refusal.{Refusal}
+use Rattle.words.specs.declared.Summary.{Summary}
 use Rattle.words.specs.Constants.{day_hours}
-use Rattle.words.specs.declared.Answer.{Answer}
-use Rattle.words.specs.declared.DayChange.{DayChange}
 use Rattle.words.specs.declared.Column.{Column}
 use Rattle.om3.specs.Lists.{up_from, keep}
 use Rattle.om3.specs.Series.{levels, hour}
@@ -31,17 +32,17 @@ before d = record { from = hour 0; upto = hour (day_hours * d) }
 -- The day's last reading minus the latest reading before that day; with none earlier, minus its own first reading. A
 -- day with no reading says so. Document 01 took the day's own first reading always, and what came in at midnight was
 -- lost. [wish2 1, 2, 3] [columns 21]
-abbrev pub change_of : (earlier own : Answer) → DayChange
-change_of earlier Answer.NoReading = DayChange.NoReading
-change_of Answer.NoReading (Answer.Found own) = DayChange.Grams (own.last.grams -ℤ own.first.grams)
-change_of (Answer.Found earlier) (Answer.Found own) = DayChange.Grams (own.last.grams -ℤ earlier.last.grams)
+abbrev pub change_of : (earlier own : Option Summary) → Result (Option ℤ) Refusal
+change_of earlier None = Ok None
+change_of None (Some own) = Ok (Some (own.last.grams -ℤ own.first.grams))
+change_of (Some earlier) (Some own) = Ok (Some (own.last.grams -ℤ earlier.last.grams))
 
 module _ (n : ℕ) (t : Table) (d : ℕ) where
   -- If the day has a reading and is not day 0, the hours before it are examined as one finished column over all of
   -- them. [wish2 6]
-  abbrev pub examine_before : (own : Answer) → Check
-  examine_before Answer.NoReading = passes
-  examine_before (Answer.Found own) =
+  abbrev pub examine_before : (own : Option Summary) → Check
+  examine_before None = passes
+  examine_before (Some own) =
       let l = levels n in
       let x = before d in
       cond (eqb d 0) passes (examine_column l t x n (finished_nodes l t x))
@@ -59,22 +60,22 @@ module _ (n : ℕ) (t : Table) (d : ℕ) where
       ∷ examine_before (answer l t x)
       ∷ []
 
-  unfoldable pub day_change : DayChange
+  unfoldable pub day_change : Result (Option ℤ) Refusal
   day_change =
       let l = levels n in
-      answer_by DayChange.Refused (in_order day_checks) (change_of (answer l t (before d)) (answer l t (day n d)))
+      answer_by Err (in_order day_checks) (change_of (answer l t (before d)) (answer l t (day n d)))
 
 -- All days: every d with 24·d < n. [wish2 4]
 abbrev pub days_of : ℕ → List ℕ
 days_of n = keep (λ d. ltb (day_hours * d) n) (up_from 0 n)
 
 -- Its change; a day with no reading adds nothing. [wish2 4]
-abbrev pub added_by : DayChange → ℤ
-added_by (DayChange.Grams grams) = grams
-added_by DayChange.NoReading = pos 0
-added_by (DayChange.Refused why) = pos 0
+abbrev pub added_by : Result (Option ℤ) Refusal → ℤ
+added_by (Ok (Some grams)) = grams
+added_by (Ok None) = pos 0
+added_by (Err why) = pos 0
 
 -- The last reading minus the first; 0, if there is none. [wish2 4]
-abbrev pub span_of : Answer → ℤ
-span_of Answer.NoReading = pos 0
-span_of (Answer.Found answer) = answer.last.grams -ℤ answer.first.grams
+abbrev pub span_of : Option Summary → ℤ
+span_of None = pos 0
+span_of (Some answer) = answer.last.grams -ℤ answer.first.grams

@@ -9,15 +9,13 @@ unfoldable pub use Rattle.om3.specs.Nodes.{width, start, hours, level_of}
 pub use Rattle.om3.specs.Ranges.{is_empty, hour_range, both}
 unfoldable pub use Rattle.om3.specs.Ranges.{look, range_of}
 pub use Rattle.om3.specs.Table.{Table, lent, low_detail, high_detail, code, low_detail_of, high_detail_of}
-pub use Rattle.om3.specs.Table.{code_of_place}
-pub use Rattle.om3.specs.Table.{table_of, HasTable}
+pub use Rattle.om3.specs.Table.{code_of_place, table_of, HasTable}
 unfoldable pub use Rattle.om3.specs.Table.{coefficient, pair_code}
 pub use Rattle.om3.specs.Down.{left_low, right_low, left_high, right_high, left_half, right_half, first_of_pair}
 pub use Rattle.om3.specs.Down.{second_of_pair, coefficient_at, low_detail_at, high_detail_at, code_at, root_range}
-pub use Rattle.om3.specs.Down.{left_of}
-pub use Rattle.om3.specs.Down.{right_of, reached}
+pub use Rattle.om3.specs.Down.{left_of, right_of, reached}
 unfoldable pub use Rattle.om3.specs.Down.{reached_at, turned_back}
-pub use Rattle.om3.specs.Checks.{Check, passes, refuses, refuse_if, and_then, answer_by, FirstCause}
+pub use Rattle.om3.specs.Checks.{Check, passes, refuses, refuse_if, and_then, answer_by, checked_by, FirstCause}
 unfoldable pub use Rattle.om3.specs.Checks.{in_order}
 pub use Rattle.om3.specs.Sound.{sound_root_values, is_detail, ordered, both_are, sound_details, sound_code, gap_from}
 pub use Rattle.om3.specs.Sound.{sound_pair, table_nodes, all_nodes, examine_node, examine_root, examine_nodes}
@@ -34,14 +32,14 @@ pub use Rattle.om3.specs.Record.{length_for, record_length, record_size, header_
 pub use Rattle.om3.specs.Record.{version_in, hours_in, coefficient_in}
 unfoldable pub use Rattle.om3.specs.Record.{record_of, table_in}
 pub use Rattle.om3.specs.RecordCalls.{writing_checks, writing, check_header, check_version, check_length, check_cut}
-pub use Rattle.om3.specs.RecordCalls.{check_after, opening_checks, Openable, unpacking_checks, unpacking}
-pub use Rattle.om3.specs.RecordCalls.{check_place, check_reach}
+pub use Rattle.om3.specs.RecordCalls.{check_after, opening_checks, Openable, unpacking_checks, unpacking, check_place}
+pub use Rattle.om3.specs.RecordCalls.{check_reach}
 unfoldable pub use Rattle.om3.specs.RecordCalls.{opening, asking_view, asking}
 pub use Rattle.om3.specs.Columns.{ceil, edge, column, in_column, column_hours, no_hour, edges_checks}
 unfoldable pub use Rattle.om3.specs.Columns.{edges}
 pub use Rattle.om3.specs.Stopped.{has_reading, opened_nodes, is_outer, is_inner, inner, examine_column}
-unfoldable pub use Rattle.om3.specs.Stopped.{shares, inside, range_over, opened, visited, count_at, outer}
-unfoldable pub use Rattle.om3.specs.Stopped.{inner_nodes, stopped}
+unfoldable pub use Rattle.om3.specs.Stopped.{shares, inside, range_over, opened, visited, count_at, outer, inner_nodes}
+unfoldable pub use Rattle.om3.specs.Stopped.{stopped}
 pub use Rattle.om3.specs.Finished.{levels_of, nodes_of, end_of, towards_first, towards_last, first_walk, last_walk}
 pub use Rattle.om3.specs.Finished.{reading_at, walks_from, answer_from, answer, count, finished_nodes}
 unfoldable pub use Rattle.om3.specs.Finished.{walk_nodes, walk_end, inside_nodes, finished}

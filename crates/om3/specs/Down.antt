@@ -11,14 +11,13 @@
 --   reached l t v                 the range reached at node v; reached_at l t j k, at node k of level j
 --   turned_back l t n              what the n hours come out as
 use Rattle.std.specs.Prelude.{cond, List, map, ℕ, zero, suc, ◌+◌, ◌-◌, ◌*◌, ◌/◌, ◌%◌, ◌^◌, eqb, ℤ, pos, ◌+ℤ◌, ◌-ℤ◌}
-use Rattle.std.specs.Prelude.{get_or}
+use Rattle.std.specs.Prelude.{None, Option, Some, get_or}
+use Rattle.words.specs.Said.{held, low_of}
 use Rattle.std.specs.Int.Signed.{le_z}
 use Rattle.signed.specs.Choice.{is_number}
 use Rattle.words.specs.Constants.{left_mark, right_mark}
-use Rattle.words.specs.Said.{low_of}
 use Rattle.words.specs.declared.NodeId.{NodeId}
 use Rattle.words.specs.declared.Range.{Range}
-use Rattle.words.specs.declared.Range.TheVariants.{Empty, Held}
 use Rattle.om3.specs.Lists.{up_from}
 use Rattle.om3.specs.Series.{is_gap}
 use Rattle.om3.specs.Nodes.{Node, number, is_pair}
@@ -43,37 +42,37 @@ right_high high high_detail = cond (le_z (pos 0) high_detail) (high -ℤ high_de
 
 -- The left half takes the whole range at the mark of the left, is empty at that of the right, and else goes down by the
 -- two details. Halves of an empty node are empty. [table 5, 10, 11]
-abbrev pub left_half : Range → ℤ → ℤ → Range
-left_half Empty low_detail high_detail = Empty
-left_half (Held low high) low_detail high_detail =
-    cond (is_number left_mark low_detail) (Held low high)
-    (cond (is_number right_mark low_detail) Empty
-    (Held (left_low low low_detail) (left_high high high_detail)))
+abbrev pub left_half : Option Range → ℤ → ℤ → Option Range
+left_half None low_detail high_detail = None
+left_half (Some r) low_detail high_detail =
+    cond (is_number left_mark low_detail) (Some r)
+    (cond (is_number right_mark low_detail) None
+    (held (left_low r.low low_detail) (left_high r.high high_detail)))
 
-abbrev pub right_half : Range → ℤ → ℤ → Range
-right_half Empty low_detail high_detail = Empty
-right_half (Held low high) low_detail high_detail =
-    cond (is_number right_mark low_detail) (Held low high)
-    (cond (is_number left_mark low_detail) Empty
-    (Held (right_low low low_detail) (right_high high high_detail)))
+abbrev pub right_half : Option Range → ℤ → ℤ → Option Range
+right_half None low_detail high_detail = None
+right_half (Some r) low_detail high_detail =
+    cond (is_number right_mark low_detail) (Some r)
+    (cond (is_number left_mark low_detail) None
+    (held (right_low r.low low_detail) (right_high r.high high_detail)))
 
 -- The first hour of a pair is the high at code 0 and the low at codes 1 and 2; at any other code it is a gap. [table 6]
-abbrev pub first_of_pair : Range → ℕ → Range
-first_of_pair Empty c = Empty
-first_of_pair (Held low high) c =
-    cond (eqb c 0) (Held high high)
-    (cond (eqb c 1) (Held low low)
-    (cond (eqb c 2) (Held low low)
-    Empty))
+abbrev pub first_of_pair : Option Range → ℕ → Option Range
+first_of_pair None c = None
+first_of_pair (Some r) c =
+    cond (eqb c 0) (held r.high r.high)
+    (cond (eqb c 1) (held r.low r.low)
+    (cond (eqb c 2) (held r.low r.low)
+    None))
 
 -- The second hour is the low at codes 0 and 3 and the high at code 1; at any other code it is a gap. [table 6]
-abbrev pub second_of_pair : Range → ℕ → Range
-second_of_pair Empty c = Empty
-second_of_pair (Held low high) c =
-    cond (eqb c 0) (Held low low)
-    (cond (eqb c 1) (Held high high)
-    (cond (eqb c 3) (Held low low)
-    Empty))
+abbrev pub second_of_pair : Option Range → ℕ → Option Range
+second_of_pair None c = None
+second_of_pair (Some r) c =
+    cond (eqb c 0) (held r.low r.low)
+    (cond (eqb c 1) (held r.high r.high)
+    (cond (eqb c 3) (held r.low r.low)
+    None))
 
 -- The coefficient at a place; past the end 0, on which no answer rests, since check 3 comes first.
 abbrev pub coefficient_at : Table → ℕ → ℤ
@@ -91,18 +90,18 @@ abbrev pub code_at : ℕ → Table → NodeId → ℕ
 code_at l t i = get_or t.codes (i.0 - 2 ^ l / 2) 0
 
 -- Node 1 is empty if its low is the mark, and else has the low and the high of places 0 and 1. [table 2]
-abbrev pub root_range : ℤ → ℤ → Range
-root_range low high = cond (is_gap low) Empty (Held low high)
+abbrev pub root_range : ℤ → ℤ → Option Range
+root_range low high = cond (is_gap low) None (held low high)
 
 module _ (l : ℕ) (t : Table) where
   -- From the range of node v to those of its halves.
-  abbrev pub left_of : Node → Range → Range
+  abbrev pub left_of : Node → Option Range → Option Range
   left_of v r =
       cond (is_pair l v)
       (first_of_pair r (code_at l t (number v)))
       (left_half r (low_detail_at t (number v)) (high_detail_at t (number v)))
 
-  abbrev pub right_of : Node → Range → Range
+  abbrev pub right_of : Node → Option Range → Option Range
   right_of v r =
       cond (is_pair l v)
       (second_of_pair r (code_at l t (number v)))
@@ -110,14 +109,14 @@ module _ (l : ℕ) (t : Table) where
 
   -- The range reached at node k of level j: a left half if k is even, else a right half, of node k/2 of the level
   -- above.
-  unfoldable pub reached_at : ℕ → ℕ → Range
+  unfoldable pub reached_at : ℕ → ℕ → Option Range
   reached_at zero k = root_range (coefficient_at t 0) (coefficient_at t 1)
   reached_at (suc j) k =
       cond (eqb (k % 2) 0)
       (left_of (record { level = j; index = k / 2 }) (reached_at j (k / 2)))
       (right_of (record { level = j; index = k / 2 }) (reached_at j (k / 2)))
 
-  abbrev pub reached : Node → Range
+  abbrev pub reached : Node → Option Range
   reached v = reached_at v.level v.index
 
   -- Hour k is node k of level l; an empty one is a gap. [hours 9]

@@ -13,11 +13,12 @@
 --   finished_nodes                   the nodes that it examines
 --   finished_checks                  the checks of the call for a finished column; finished n t a b w k, what it
 --                                    answers
-use Rattle.std.specs.Prelude.{cond, ◌&&◌, ℕ, zero, suc, ◌+◌, ◌-◌}
+use Rattle.std.specs.Prelude.{cond, ◌&&◌, ℕ, zero, suc, ◌+◌, ◌-◌, Err, None, Option, Result, Some}
+use Rattle.words.specs.declared.Refusal.{Refusal}
+use Rattle.words.specs.declared.Summary.{Summary}
+use Rattle.words.specs.Said.{finished_as, low_of, high_of}
 use mathlib.Core.List.{List, [], ◌∷◌, ◌++◌, map, flat_map}
-use Rattle.words.specs.Said.{low_of, high_of}
 use Rattle.words.specs.declared.Reading.{Reading}
-use Rattle.words.specs.declared.Answer.{Answer}
 use Rattle.words.specs.declared.Finished.{Finished}
 use Rattle.words.specs.declared.Column.{Column}
 use Rattle.om3.specs.Lists.{keep, last_of, sum}
@@ -84,10 +85,10 @@ module _ (l : ℕ) (t : Table) where
   -- node, no reading. [columns 13, 14]
   -- Deviation: document 004 speaks of four M4 samples a column, but its Algorithm 1 records lowest and highest value;
   -- we answer the first and the last reading of every column too, with their hours.
-  abbrev pub answer_from : List Node → Answer
-  answer_from [] = Answer.NoReading
+  abbrev pub answer_from : List Node → Option Summary
+  answer_from [] = None
   answer_from (v ∷ vs) =
-      Answer.Found
+      Some
       (record {
         first = reading_at (end_of l (first_walk v));
         last = reading_at (end_of l (last_walk (last_of v vs)));
@@ -100,7 +101,7 @@ module _ (l : ℕ) (t : Table) (x : Column) where
   unfoldable pub inside_nodes : List Node
   inside_nodes = keep (λ v. has_reading l t v && inside l x v && visited l t x l v) (all_nodes l)
 
-  abbrev pub answer : Answer
+  abbrev pub answer : Option Summary
   answer = answer_from l t inside_nodes
 
   -- The count of depth l, plus one node for each level walked down. [columns 15]
@@ -126,8 +127,8 @@ module _ (n : ℕ) (t : Table) (a b w k : ℕ) where
       ∷ []
 
   -- The answer with its count. [columns 13, 14]
-  unfoldable pub finished : Finished
+  unfoldable pub finished : Result Finished Refusal
   finished =
       let l = levels n in
       let x = column a b w k in
-      answer_by Finished.Refused (in_order finished_checks) (Finished.Answered (answer l t x) (count l t x))
+      answer_by Err (in_order finished_checks) (finished_as (answer l t x) (count l t x))

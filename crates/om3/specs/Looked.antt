@@ -10,13 +10,12 @@
 --                        range
 --   LiesWithin r q       the range r lies between the low and the high of q; an absent range lies within any; nothing
 --                        but an absent one lies within an absent one
-use Rattle.std.specs.Prelude.{not, List, [], ◌∷◌, map, ℕ, ℤ, ◌≤ℤ◌}
-use Rattle.signed.specs.Choice.{min_z, max_z}
+use Rattle.std.specs.Prelude.{not, List, [], ◌∷◌, map, ℕ, ℤ, ◌≤ℤ◌, None, Option, Some}
+use Rattle.words.specs.declared.Summary.{Summary}
+use Rattle.std.specs.Int.{int_min, int_max}
 use Rattle.words.specs.declared.Timestamp.{Timestamp}
 use Rattle.words.specs.declared.Range.{Range}
-use Rattle.words.specs.declared.Range.TheVariants.{Empty, Held}
 use Rattle.words.specs.declared.Reading.{Reading}
-use Rattle.words.specs.declared.Answer.{Answer}
 use Rattle.om3.specs.Lists.{keep, last_of}
 use Rattle.om3.specs.Series.{is_gap, hour_of}
 
@@ -31,19 +30,19 @@ readings_in n s hs = map (reading_of n s) (keep (λ h. not (is_gap (hour_of n s 
 -- .. and take the first of them, the last of them, the least and the greatest.
 unfoldable pub least : ℤ → List ℤ → ℤ
 least z [] = z
-least z (y ∷ ys) = min_z z (least y ys)
+least z (y ∷ ys) = int_min z (least y ys)
 
 unfoldable pub greatest : ℤ → List ℤ → ℤ
 greatest z [] = z
-greatest z (y ∷ ys) = max_z z (greatest y ys)
+greatest z (y ∷ ys) = int_max z (greatest y ys)
 
 abbrev pub grams_in : List Reading → List ℤ
 grams_in readings = map (λ (reading : Reading). reading.grams) readings
 
-abbrev pub look_over : List Reading → Answer
-look_over [] = Answer.NoReading
+abbrev pub look_over : List Reading → Option Summary
+look_over [] = None
 look_over (reading ∷ further) =
-    Answer.Found
+    Some
     (record {
       first = reading;
       last = last_of reading further;
@@ -51,16 +50,16 @@ look_over (reading ∷ further) =
       high = greatest reading.grams (grams_in further);
     })
 
-unfoldable pub look_through : ℕ → List ℤ → List Timestamp → Answer
+unfoldable pub look_through : ℕ → List ℤ → List Timestamp → Option Summary
 look_through n s hs = look_over (readings_in n s hs)
 
 -- An absent range has no reading within it.
-abbrev pub Covers : Range → ℤ → Type 0
-Covers Empty z = ⊥
-Covers (Held low high) z = (low ≤ℤ z) × (z ≤ℤ high)
+abbrev pub Covers : Option Range → ℤ → Type 0
+Covers None z = ⊥
+Covers (Some r) z = (r.low ≤ℤ z) × (z ≤ℤ r.high)
 
 -- An absent range lies within any, and only such a one within an absent one.
-abbrev pub LiesWithin : Range → Range → Type 0
-LiesWithin Empty q = Unit
-LiesWithin (Held low high) Empty = ⊥
-LiesWithin (Held low high) (Held low' high') = (low' ≤ℤ low) × (high ≤ℤ high')
+abbrev pub LiesWithin : Option Range → Option Range → Type 0
+LiesWithin None q = Unit
+LiesWithin (Some r) None = ⊥
+LiesWithin (Some r) (Some q) = (q.low ≤ℤ r.low) × (r.high ≤ℤ q.high)

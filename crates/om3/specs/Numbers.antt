@@ -12,19 +12,17 @@
 --   morning, noon     answers of some of the seven hours
 --   further           where document 01 leaves room or an error comes easily
 --   printing          texts and what is printed for them
-use Rattle.std.specs.Prelude.{◌≡◌, List, [], ◌∷◌, ◌++◌, map, ℕ, ◌-◌, ◌*◌, ℤ, pos, neg_ℤ, replicate}
+use Rattle.std.specs.Prelude.{◌≡◌, List, [], ◌∷◌, ◌++◌, map, ℕ, ◌-◌, ◌*◌, ℤ, pos, neg_ℤ, replicate, None, Option, Some}
+use Rattle.words.specs.declared.Summary.{Summary}
 use Prim.Native.String.{String}
 use Rattle.words.specs.Constants.{gap}
 use Rattle.words.specs.Said.{taken}
 use Rattle.words.specs.declared.Reading.{Reading}
-use Rattle.words.specs.declared.Answer.{Answer}
-use Rattle.words.specs.declared.Answer.TheVariants.{NoReading, Found}
 use Rattle.om3.specs.Series.{hour}
 use Rattle.om3.specs.Text.{ascii}
-use Rattle.om3.specs.Questions.{Question, Reply, reply_to, table_from}
-use Rattle.om3.specs.Questions.{table_for, making_for, turning_for, finished_for, stopped_for, day_for, finished_in}
-use Rattle.om3.specs.Questions.{edges_for, level_for, size_for, record_for, writing_for, reading_for, open_for, ask_for}
-use Rattle.om3.specs.Questions.{join_for, print_for, table, says, bytes}
+use Rattle.om3.specs.Questions.{Question, Reply, reply_to, table_from, table_for, making_for, turning_for, finished_for}
+use Rattle.om3.specs.Questions.{stopped_for, day_for, finished_in, edges_for, level_for, size_for, record_for}
+use Rattle.om3.specs.Questions.{writing_for, reading_for, open_for, ask_for, join_for, print_for, table, says, bytes}
 
 pub record Case : Type 0 where
   pub question : Question
@@ -155,11 +153,11 @@ late =
 abbrev at : (h grams : ℕ) → Reading
 at h grams = record { hour = hour h; grams = g grams }
 
-abbrev morning : Answer
-morning = Found (record { first = at 0 41200; last = at 1 41350; low = g 41200; high = g 41350 })
+abbrev morning : Option Summary
+morning = Some (record { first = at 0 41200; last = at 1 41350; low = g 41200; high = g 41350 })
 
-abbrev noon : Answer
-noon = Found (record { first = at 3 40900; last = at 4 32760; low = g 32760; high = g 40900 })
+abbrev noon : Option Summary
+noon = Some (record { first = at 3 40900; last = at 4 32760; low = g 32760; high = g 40900 })
 
 -- One hour of −500 grams: 14 bytes.
 abbrev pub fourteen : List ℕ
@@ -191,8 +189,8 @@ further =
     ∷ (level_for 7 2 ((table_from 7 seven).coefficients ++ replicate 8 (g 5)) is says (taken []))
     -- the answers of hours 0 to 2 and of hours 3 and 4 joined; with no reading on one side [columns 19]
     ∷ (join_for morning noon is says (taken (pos 0 ∷ g 41200 ∷ pos 4 ∷ g 32760 ∷ g 32760 ∷ g 41350 ∷ [])))
-    ∷ (join_for morning NoReading is says (taken (pos 0 ∷ g 41200 ∷ pos 1 ∷ g 41350 ∷ g 41200 ∷ g 41350 ∷ [])))
-    ∷ (join_for NoReading noon is says (taken (pos 3 ∷ g 40900 ∷ pos 4 ∷ g 32760 ∷ g 32760 ∷ g 40900 ∷ [])))
+    ∷ (join_for morning None is says (taken (pos 0 ∷ g 41200 ∷ pos 1 ∷ g 41350 ∷ g 41200 ∷ g 41350 ∷ [])))
+    ∷ (join_for None noon is says (taken (pos 3 ∷ g 40900 ∷ pos 4 ∷ g 32760 ∷ g 32760 ∷ g 40900 ∷ [])))
     -- the house record byte by byte [record 1, 2, 3, 4, 5, 6]
     ∷ (record_for 1 (-g 500 ∷ []) is bytes fourteen)
     ∷ (open_for fourteen is says (taken (pos 1 ∷ pos 2 ∷ [])))

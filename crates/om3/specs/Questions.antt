@@ -3,11 +3,11 @@
 --   Question, Reply   what is asked; what is replied
 --   table_from n s     the table of n hours that hold s
 --   reply_to q         what the definitions reply
-use Rattle.std.specs.Prelude.{List, [], ◌∷◌, ℕ, ℤ, pos, length, replicate}
-use Rattle.words.specs.Said.{Said, refused, taken, said_of_taking, values_of}
-use Rattle.words.specs.Said.{said_of_finished, said_of_stopped, said_of_edges, said_of_day_change}
-use Rattle.words.specs.Said.{said_of_writing, said_of_unpacking, said_of_opening, said_of_asking}
-use Rattle.words.specs.declared.Answer.{Answer}
+use Rattle.std.specs.Prelude.{List, [], ◌∷◌, ℕ, ℤ, pos, length, replicate, Option}
+use Rattle.words.specs.declared.Summary.{Summary}
+use Rattle.words.specs.Said.{Said, refused, taken, said_of_taking, values_of, said_of_finished, said_of_stopped}
+use Rattle.words.specs.Said.{said_of_edges, said_of_day_change, said_of_writing, said_of_unpacking, said_of_opening}
+use Rattle.words.specs.Said.{said_of_asking}
 use Rattle.om3.specs.Series.{levels}
 use Rattle.om3.specs.Table.{Table, lent, table_of}
 use Rattle.om3.specs.Checks.{in_order, answer_by}
@@ -34,7 +34,7 @@ pub data Question : Type 0 where
   stopped_in : (n : ℕ) (coefficients : List ℤ) (codes : List ℕ) (a b w k d : ℕ) → Question
   day_in : (n : ℕ) (coefficients : List ℤ) (codes : List ℕ) (d : ℕ) → Question
   -- two answers joined
-  join_for : (left right : Answer) → Question
+  join_for : (left right : Option Summary) → Question
   -- the edges of a column
   edges_for : (n a b w k : ℕ) → Question
   -- the details of level j of a table

@@ -12,19 +12,19 @@
 --                             what
 --                            it answers
 --   asking_checks r p         the checks of asking a record for place p; asking, what it answers
-use Rattle.std.specs.Prelude.{◌≡◌, false, not, ◌||◌, List, [], ◌∷◌, ℕ, ◌+◌, ◌*◌, leb, ltb, eqb, length}
+use Rattle.std.specs.Prelude.{◌≡◌, false, not, ◌||◌, List, [], ◌∷◌, ℕ, ◌+◌, ◌*◌, leb, ltb, eqb, length, ℤ, Err, Ok}
+use Rattle.std.specs.Prelude.{Result}
+use Rattle.words.specs.declared.Refusal.{Refusal}
+use Rattle.words.specs.Said.{opened_as}
 use Rattle.words.specs.Constants.{version}
 use Rattle.words.specs.declared.Refusal.TheVariants.{CutShort, BadVersion, BadLength, BytesAfter, BadPlace}
-use Rattle.words.specs.declared.Writing.{Writing}
-use Rattle.words.specs.declared.Unpacking.{Unpacking}
 use Rattle.words.specs.declared.Opening.{Opening}
-use Rattle.words.specs.declared.Asking.{Asking}
 use Rattle.om3.specs.Series.{bad_hours, P}
 use Rattle.om3.specs.Table.{Table}
 use Rattle.om3.specs.Checks.{Check, refuse_if, in_order, answer_by}
 use Rattle.om3.specs.Refusals.{check_hours, check_room, short, table_short, examine_table}
-use Rattle.om3.specs.Record.{record_length, record_size, header_size, length_in, version_in, hours_in}
-use Rattle.om3.specs.Record.{coefficient_in, table_in}
+use Rattle.om3.specs.Record.{record_length, record_size, header_size, length_in, version_in, hours_in, coefficient_in}
+use Rattle.om3.specs.Record.{table_in}
 
 -- Writing a record: 1, 3, 4. Needed are the table, and room for the whole record. [refusals 15, 18]
 abbrev pub writing_checks : ℕ → Table → (size : ℕ) → List Check
@@ -35,8 +35,8 @@ writing_checks n t size =
     ∷ []
 
 -- A successful writing answers the number of bytes of the record.
-abbrev pub writing : ℕ → Table → (size : ℕ) → Writing
-writing n t size = answer_by Writing.Refused (in_order (writing_checks n t size)) (Writing.Bytes (record_size n))
+abbrev pub writing : ℕ → Table → (size : ℕ) → Result ℕ Refusal
+writing n t size = answer_by Err (in_order (writing_checks n t size)) (Ok (record_size n))
 
 -- 8: under 7 bytes. [refusals 8, 19]
 abbrev pub check_header : List ℕ → Check
@@ -71,8 +71,8 @@ opening_checks r =
     ∷ []
 
 -- It answers n and P.
-unfoldable pub opening : List ℕ → Opening
-opening r = answer_by Opening.Refused (in_order (opening_checks r)) (Opening.Record (hours_in r) (P (hours_in r)))
+unfoldable pub opening : List ℕ → Result Opening Refusal
+opening r = answer_by Err (in_order (opening_checks r)) (opened_as (hours_in r) (P (hours_in r)))
 
 -- What passes all of them: the fields fit one another and the length. [refusals 19]
 pub record Openable (r : List ℕ) : Type 0 where
@@ -96,8 +96,8 @@ unpacking_checks r t =
     ∷ []
 
 -- A successful reading answers n.
-abbrev pub unpacking : List ℕ → Table → Unpacking
-unpacking r t = answer_by Unpacking.Refused (in_order (unpacking_checks r t)) (Unpacking.Hours (hours_in r))
+abbrev pub unpacking : List ℕ → Table → Result ℕ Refusal
+unpacking r t = answer_by Err (in_order (unpacking_checks r t)) (Ok (hours_in r))
 
 -- 13: the place is P or more. [level 3] [refusals 13]
 abbrev pub check_place : (places p : ℕ) → Check
@@ -112,9 +112,9 @@ check_reach r p = refuse_if (ltb (length r) (header_size + 3 * p + 3)) CutShort
 abbrev pub view_checks : List ℕ → (places p : ℕ) → List Check
 view_checks r places p = check_place places p ∷ check_reach r p ∷ []
 
-unfoldable pub asking_view : List ℕ → (places p : ℕ) → Asking
+unfoldable pub asking_view : List ℕ → (places p : ℕ) → Result ℤ Refusal
 asking_view r places p =
-    answer_by Asking.Refused (in_order (view_checks r places p)) (Asking.Coefficient (coefficient_in r p))
+    answer_by Err (in_order (view_checks r places p)) (Ok (coefficient_in r p))
 
 -- A record is opened and asked: the checks of opening, then 13. [level 3]
 abbrev pub asking_checks : List ℕ → (p : ℕ) → List Check
@@ -128,5 +128,5 @@ asking_checks r p =
     ∷ check_place (P (hours_in r)) p
     ∷ []
 
-unfoldable pub asking : List ℕ → (p : ℕ) → Asking
-asking r p = answer_by Asking.Refused (in_order (asking_checks r p)) (Asking.Coefficient (coefficient_in r p))
+unfoldable pub asking : List ℕ → (p : ℕ) → Result ℤ Refusal
+asking r p = answer_by Err (in_order (asking_checks r p)) (Ok (coefficient_in r p))

@@ -13,17 +13,16 @@
 --   examine_node i is_sound   the examination of node i; examine_root t, of node 0
 --   examine_nodes l n t vs   the examination of a list of nodes; examine, of node 0 and then of the list
 use Rattle.std.specs.Prelude.{Bool, true, cond, not, ◌&&◌, ◌||◌, List, [], ◌∷◌, ◌++◌, map, ℕ, zero, suc, ltb, eqb, ℤ}
-use Rattle.std.specs.Prelude.{pos, neg_ℤ}
+use Rattle.std.specs.Prelude.{None, Option, Some, pos, neg_ℤ}
 use Rattle.std.specs.Int.Signed.{le_z, lt_z}
 use Rattle.signed.specs.{is_number, eq_z}
 use Rattle.words.specs.{largest_detail, left_mark, right_mark, gap_mark}
-use Rattle.words.specs.declared.{Timestamp.Timestamp, NodeId.NodeId, Range.Range, Range.TheVariants.Empty}
-use Rattle.words.specs.declared.{Range.TheVariants.Held, Refusal.TheVariants.Unsound}
+use Rattle.words.specs.declared.{Timestamp.Timestamp, NodeId.NodeId, Range.Range, Refusal.TheVariants.Unsound}
 use Rattle.om3.specs.{Lists.every, Series.is_reading, Series.is_gap, Ranges.is_empty, Table.Table}
-use Rattle.om3.specs.Down.{high_detail_at, code_at, reached}
+use Rattle.om3.specs.Down.{high_detail_at, code_at, reached, left_half, right_half, first_of_pair, second_of_pair}
+use Rattle.om3.specs.Down.{coefficient_at, low_detail_at}
 use Rattle.om3.specs.Checks.{Check, refuse_if, and_then, in_order}
 use Rattle.om3.specs.Nodes.{Node, number, root, left, right, is_pair, first_hour}
-use Rattle.om3.specs.Down.{left_half, right_half, first_of_pair, second_of_pair, coefficient_at, low_detail_at}
 
 -- Both 2,000,003, or both readings with low ≤ high. [sound 1]
 abbrev pub sound_root_values : ℤ → ℤ → Bool
@@ -34,32 +33,32 @@ abbrev pub is_detail : ℤ → Bool
 is_detail z = le_z (neg_ℤ (pos largest_detail)) z && le_z z (pos largest_detail)
 
 -- Low ≤ high; an empty range has neither.
-abbrev pub ordered : Range → Bool
-ordered Empty = true
-ordered (Held low high) = le_z low high
+abbrev pub ordered : Option Range → Bool
+ordered None = true
+ordered (Some r) = le_z r.low r.high
 
 abbrev pub both_are : (mark : ℕ) → ℤ → ℤ → Bool
 both_are mark low_detail high_detail = is_number mark low_detail && is_number mark high_detail
 
 -- A node that is not a pair, with its range and its details: if empty, both are 2,000,003; otherwise both are
 -- 2,000,001, or both 2,000,002, or both are details and each half reached by going down has low ≤ high. [sound 2, 3]
-abbrev pub sound_details : Range → ℤ → ℤ → Bool
-sound_details Empty low_detail high_detail = both_are gap_mark low_detail high_detail
-sound_details (Held low high) low_detail high_detail =
+abbrev pub sound_details : Option Range → ℤ → ℤ → Bool
+sound_details None low_detail high_detail = both_are gap_mark low_detail high_detail
+sound_details (Some r) low_detail high_detail =
     both_are left_mark low_detail high_detail
     || both_are right_mark low_detail high_detail
     || (is_detail low_detail && is_detail high_detail
-    && ordered (left_half (Held low high) low_detail high_detail)
-    && ordered (right_half (Held low high) low_detail high_detail))
+    && ordered (left_half (Some r) low_detail high_detail)
+    && ordered (right_half (Some r) low_detail high_detail))
 
 -- A pair, with its range and its code: if empty, 4; otherwise 0, or 1 with low < high, or 2 or 3 with low = high.
 -- [sound 4]
-abbrev pub sound_code : Range → ℕ → Bool
-sound_code Empty c = eqb c 4
-sound_code (Held low high) c = eqb c 0 || (eqb c 1 && lt_z low high) || ((eqb c 2 || eqb c 3) && eq_z low high)
+abbrev pub sound_code : Option Range → ℕ → Bool
+sound_code None c = eqb c 4
+sound_code (Some r) c = eqb c 0 || (eqb c 1 && lt_z r.low r.high) || ((eqb c 2 || eqb c 3) && eq_z r.low r.high)
 
 -- An hour from n on comes out as a gap. [sound 4]
-abbrev pub gap_from : ℕ → Timestamp → Range → Bool
+abbrev pub gap_from : ℕ → Timestamp → Option Range → Bool
 gap_from n h r = ltb h.0 n || is_empty r
 
 module _ (l n : ℕ) (t : Table) where

@@ -13,9 +13,11 @@
 --   examine_column n vs           the examination of a column's nodes vs, in a table of n hours
 --   stopped_checks                the checks of the call for a column at a depth; stopped n t a b w k d, what it
 --                                 answers
-use Rattle.std.specs.Prelude.{Bool, cond, not, ◌&&◌, ◌||◌, List, [], ◌∷◌, ℕ, ◌+◌, ◌-◌, ◌*◌, ◌/◌, ltb, eqb, length}
+use Rattle.std.specs.Prelude.{Bool, cond, not, ◌&&◌, ◌||◌, List, [], ◌∷◌, ℕ, ◌+◌, ◌-◌, ◌*◌, ◌/◌, ltb, eqb, length, None}
+use Rattle.std.specs.Prelude.{Option, Err, Result}
+use Rattle.words.specs.declared.Refusal.{Refusal}
+use Rattle.words.specs.Said.{stopped_as}
 use Rattle.words.specs.declared.Range.{Range}
-use Rattle.words.specs.declared.Range.TheVariants.{Empty}
 use Rattle.words.specs.declared.Stopped.{Stopped}
 use Rattle.words.specs.declared.Column.{Column}
 use Rattle.om3.specs.Lists.{any, every, keep}
@@ -47,8 +49,8 @@ inside l x v = every (in_column x) (hours l v)
 
 module _ (l : ℕ) (t : Table) where
   -- The least low and the greatest high over the nodes of a list; over no node it is absent. [columns 12]
-  unfoldable pub range_over : List Node → Range
-  range_over [] = Empty
+  unfoldable pub range_over : List Node → Option Range
+  range_over [] = None
   range_over (v ∷ vs) = both (reached l t v) (range_over vs)
 
 module _ (l : ℕ) (t : Table) (x : Column) where
@@ -79,7 +81,7 @@ module _ (l : ℕ) (t : Table) (x : Column) where
   abbrev pub is_outer : ℕ → Node → Bool
   is_outer d v = visited d v && not (opened d v) && has_reading l t v && shares l x v
 
-  unfoldable pub outer : ℕ → Range
+  unfoldable pub outer : ℕ → Option Range
   outer d = range_over l t (keep (is_outer d) (all_nodes l))
 
   -- Inner: the same over those wholly inside. From left to right these nodes are in the order of their hours.
@@ -90,7 +92,7 @@ module _ (l : ℕ) (t : Table) (x : Column) where
   unfoldable pub inner_nodes : ℕ → List Node
   inner_nodes d = keep (is_inner d) (all_nodes l)
 
-  abbrev pub inner : ℕ → Range
+  abbrev pub inner : ℕ → Option Range
   inner d = range_over l t (inner_nodes d)
 
   -- Node 0, then these nodes in their order; for a column without an hour the table is not examined. Only these are
@@ -114,9 +116,9 @@ module _ (n : ℕ) (t : Table) (a b w k d : ℕ) where
       ∷ []
 
   -- The two ranges and the count at this depth. [columns 9, 10, 11]
-  unfoldable pub stopped : Stopped
+  unfoldable pub stopped : Result Stopped Refusal
   stopped =
       let l = levels n in
       let x = column a b w k in
-      answer_by Stopped.Refused (in_order stopped_checks)
-      (Stopped.Ranges (outer l t x d) (inner l t x d) (count_at l t x d))
+      answer_by Err (in_order stopped_checks)
+      (stopped_as (outer l t x d) (inner l t x d) (count_at l t x d))

@@ -5,12 +5,11 @@ use Rattle.kit.proofs.{map-append}
 use Rattle.kit.proofs.{ℕ, suc, ◌+◌, ◌-◌, ◌*◌, ◌/◌, ◌^◌, ◌≤◌, ◌<◌, zero-add, arith, ℤ, pos, length, get_or, take, drop}
 use Rattle.kit.proofs.{set, mag, w32, to_z, of_z, take_all, take-suc, length-take-le}
 use Rattle.signed.proofs.{reads-back}
-use Rattle.om3.specs.Document.{up_from, filled, bytes_of, bytes_at, bits_of, three_bytes, number_from, signed_of}
-use Rattle.om3.specs.Document.{InThree}
+use Rattle.om3.specs.Document.{up_from, filled, bytes_of, bytes_at, bits_of, three_bytes}
 use Rattle.laws.proofs.{Lists.up-append, Lists.map-up-length, ThreeBytes.three-size, ThreeBytes.threes-size}
 use Rattle.laws.proofs.{RecordsForth.part_length}
 use Rattle.laws.proofs.Filled.{filled-length, filled-part, filled-set, filled-all}
-use Rattle.packing.specs.Packing.{EachInThree, coefficient_from, unpacked}
+use Rattle.packing.specs.Packing.{coefficient_from, unpacked}
 
 -- What the machine reads back from a number's bits.
 abbrev back : ℤ → ℤ
@@ -23,25 +22,12 @@ place bs p = take (3 * p + 3 - 3 * p) (drop (3 * p) bs)
 pub part-three : (bs : List ℕ) (p : ℕ) → place bs p ≡ bytes_at bs (3 * p) 3
 part-three bs p = let e : 3 * p + 3 - 3 * p ≡ 3 = omega arith in ap (λ (w : ℕ). take w (drop (3 * p) bs)) e
 
--- A coefficient read from its three bytes.
-module _ (bs : List ℕ) (p : ℕ) {x : ℕ} where
-  pub three-small : x < 256 ^ length (place bs p) → p < length bs / 3 → x < 2 ^ 24
-  three-small h room = rw (part-three bs p, part_length bs (3 * p) 3 (omega arith)) at h
-
-  pub three-read : {z : ℤ} → z ≡ signed_of x → x ≡ number_from (place bs p) → mag z < 2 ^ 31
-      → back z ≡ coefficient_from bs p
-  three-read {z} e f m = reads-back z m ∙ e ∙ ap signed_of (f ∙ ap number_from (part-three bs p))
-
 threes-snoc : (cs : List ℤ) (z : ℤ) → flat_map three_bytes (cs ++ (z ∷ [])) ≡ flat_map three_bytes cs ++ three_bytes z
 unfolding flat_map
 threes-snoc [] z = append-nil (three_bytes z)
 threes-snoc (y ∷ cs) z =
     ap (λ (l : List ℕ). three_bytes y ++ l) (threes-snoc cs z)
     ∙ sym (append_assoc (three_bytes y) (flat_map three_bytes cs) (three_bytes z))
-
-pub in_three : (cs : List ℤ) (p : ℕ) → EachInThree cs → p < length cs → mag (get_or cs p (pos 0)) < 2 ^ 31
-    → InThree (back (get_or cs p (pos 0)))
-in_three cs p each h m = rw (reads-back (get_or cs p (pos 0)) m) (each p h)
 
 -- The first p coefficients are packed.
 pub record Packed (cs : List ℤ) (old out : List ℕ) (p : ℕ) : Type 0 where
@@ -60,12 +46,9 @@ module _ (cs : List ℤ) (old : List ℕ) (size : length old ≡ 3 * length cs) 
     abbrev first : List ℕ
     first = flat_map three_bytes (take p cs)
 
-    pub packed-length : length out ≡ length old
+    packed-length : length out ≡ length old
     packed-length =
         rw k.packed (filled-length first old (omega (arith, size, k.within, first-length p k.within)))
-
-    pub packed-room : p < length cs → 3 * p + 3 ≤ length out
-    packed-room h = omega (arith, packed-length, size)
 
     part-spelled : (part : List ℕ) (bits : ℕ) → p < length cs → bits ≡ bits_of (get_or cs p (pos 0))
         → part ≡ bytes_of (length (place out p)) bits → part ≡ three_bytes (get_or cs p (pos 0))
@@ -120,31 +103,20 @@ module _ (bs : List ℕ) (old : List ℤ) where
     abbrev before-length : length before ≡ p
     before-length = map-up-length (coefficient_from bs) 0 p
 
-    pub unpacked-length : length out ≡ length old
-    unpacked-length = rw k.unpacked (filled-length before old (omega (arith, k.within, before-length)))
+    pub unpacked-more : {z : ℤ} → p < length old → z ≡ coefficient_from bs p → mag z < 2 ^ 31
+        → Unpacked bs old (set out p (back z)) (p + 1)
+    unpacked-more {z} h e m =
+        record {
+          within = omega arith;
+          unpacked =
+              rw (k.unpacked, reads-back z m, e, up-snoc p)
+              (filled-set before old (coefficient_from bs p) (pos 0) p before-length h);
+        }
 
-    module _ (h : p < length out) where
-      pub unpacked-place : length old ≡ length bs / 3 → p < length bs / 3
-      unpacked-place size = omega (arith, unpacked-length)
-
-      pub unpacked-less : length old - (p + 1) < length old - p
-      unpacked-less = omega (arith, unpacked-length)
-
-      pub unpacked-more : {z : ℤ} → z ≡ coefficient_from bs p → mag z < 2 ^ 31
-          → Unpacked bs old (set out p (back z)) (p + 1)
-      unpacked-more {z} e m =
-          let b : p < length old = omega (arith, unpacked-length) in
-          record {
-            within = omega arith;
-            unpacked =
-                rw (k.unpacked, reads-back z m, e, up-snoc p)
-                (filled-set before old (coefficient_from bs p) (pos 0) p before-length b);
-          }
-
-    pub unpacked-all : length out ≤ p → length old ≡ length bs / 3 → out ≡ unpacked bs
+    pub unpacked-all : length old ≤ p → length old ≡ length bs / 3 → out ≡ unpacked bs
     unfolding unpacked
     unpacked-all h size =
-        let e : p ≡ length bs / 3 = omega (arith, k.within, unpacked-length) in
+        let e : p ≡ length bs / 3 = omega (arith, k.within) in
         k.unpacked
-        ∙ filled-all before old (omega (arith, before-length, unpacked-length))
+        ∙ filled-all before old (omega (arith, before-length))
         ∙ ap (λ (c : ℕ). map (coefficient_from bs) (up_from 0 c)) e

@@ -1,9 +1,8 @@
 -- Numbers spelled byte by byte: one byte more at the low end, read or written. Assumes nothing.
 use Rattle.kit.proofs.{◌≡◌, refl, sym, ap, ◌∙◌, List, [], ◌∷◌, ◌++◌, append-nil, ℕ, suc, ◌+◌, ◌-◌, ◌*◌, ◌/◌, ◌%◌, ◌^◌}
-use Rattle.kit.proofs.{◌≤◌, ◌<◌, pow-suc, div-div-eq-div-mul, mul_assoc, add-mul, sub-zero, pow-le-pow_right, div-one}
-use Rattle.kit.proofs.{le_refl, arith, lit<, length, get_or, take, set, length-append, w64, Fits, take_all, take-length}
-use Rattle.kit.proofs.{take-suc, set_at, length-take-le, append_snoc}
-use Rattle.laws.proofs.Bytes.{bytes-length}
+use Rattle.kit.proofs.{◌≤◌, ◌<◌, pow-suc, div-div-eq-div-mul, mul_assoc, add-mul, pow-le-pow_right, div-one}
+use Rattle.kit.proofs.{le_refl, arith, lit<, length, get_or, take, set, length-append, w64, Fits, take-length}
+use Rattle.kit.proofs.{take_all, take-suc, set_at, length-take-le, append_snoc}
 use Rattle.om3.specs.Document.{bytes_of, number_from}
 
 -- A byte more multiplies what was spelled before by 256.
@@ -48,9 +47,7 @@ module _ (bs : List ℕ) where
     pub shifted_fits : Fits w64 (x * 256)
     shifted_fits = omega (arith, small)
 
-    pub more-fits : (b : ℕ) → b < 256 → Fits w64 (x * 256 + b)
-    more-fits b f = omega (arith, small)
-
+  -- All bytes spell the whole number.
   pub read_all : (k x : ℕ) → Read bs k x → length bs ≤ k → (x ≡ number_from bs) × (x < 256 ^ length bs)
   read_all k x r h =
       let e : k ≡ length bs = omega (arith, r.within) in
@@ -72,17 +69,6 @@ module _ (x : ℕ) (old : List ℕ) where
         spelled = rw (z, take-length old) (sym (append-nil old));
         above = rw z (sym (div-one x));
       }
-
-  pub put-length : (out : List ℕ) (rest k : ℕ) → Put x old out rest k → length out ≡ length old
-  put-length out rest k p =
-      rw p.spelled
-      (omega (
-        arith,
-        p.within,
-        length-append (take k old) (bytes_of (length old - k) x),
-        length-take-le k old p.within,
-        bytes-length (length old - k) x,
-      ))
 
   -- One byte more, before them.
   put-before : (w j : ℕ) → j < length old
@@ -108,11 +94,3 @@ module _ (x : ℕ) (old : List ℕ) where
             rw (wider, p.above)
             (div-div-eq-div-mul x (256 ^ w) 256 ∙ ap (λ (m : ℕ). x / m) (sym (pow-suc 256 w)));
       }
-
-  pub put-place : (out : List ℕ) (rest k : ℕ) → Put x old out rest k → 0 < k → k - 1 < length out
-  put-place out rest k p h = omega (arith, put-length out rest k p, p.within)
-
-  pub put_all : (out : List ℕ) (rest k : ℕ) → Put x old out rest k → k ≤ 0 → out ≡ bytes_of (length old) x
-  put_all out rest k p h =
-      let z : k ≡ 0 = omega arith in
-      rw (z, sub-zero (length old)) at p.spelled

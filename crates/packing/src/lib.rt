@@ -11,38 +11,27 @@ const TURN: i32 = 16_777_216;
 
 const HALF_TURN: usize = 8_388_608;
 
-fn wide(b: u8) -> usize
-    ensures value { result ≡ b }
-    ensures upper_bound { result < 256 }
-{
-    b as usize
-}
-
-// The number that at most four bytes spell.
+// The number that at most four bytes spell. By hand, for two, three or four bytes: `from_be_bytes` takes eight.
 pub fn number_from(bytes: &[u8]) -> usize
     requires { length bytes.now ≤ 4 }
     ensures value { result ≡ number_from bytes.now }
     ensures upper_bound { result < 256 ^ length bytes.now }
 {
     let mut x = 0;
-    let mut k = 0;
-    while k < bytes.len() {
-        x = x * 256 + wide(bytes[k]);
-        k += 1;
+    for byte in bytes {
+        x = x * 256 + usize::from(*byte);
     }
     x
 }
 
-// Spells a number in all of the bytes lent; what they have no room for is left out.
+// Spells a number in all of the bytes lent; what they have no room for is left out. By hand for the same reason.
 pub fn put_number(x: usize, out: &mut [u8])
     ensures { out.new ≡ bytes_of (length out.old) x }
 {
     let mut rest = x;
-    let mut k = out.len();
-    while 0 < k {
-        k -= 1;
+    for k in (0..out.len()).rev() {
         out[k] = (rest % 256) as u8;
-        rest = rest / 256;
+        rest /= 256;
     }
 }
 
@@ -51,14 +40,10 @@ fn bits_of(z: i32) -> usize
     requires { InThree z }
     ensures { result ≡ bits_of z }
 {
-    if z < 0 {
-        (z + TURN) as usize
-    } else {
-        z as usize
-    }
+    z.rem_euclid(TURN) as usize
 }
 
-// The coefficient that 24 bits are. [record 5]
+// The coefficient that 24 bits are. By hand: the library has no number of 24 bits. [record 5]
 #[tactic(auto, using(crate::proofs::Threes::signed_kept, crate::proofs::Threes::signed_turned))]
 fn signed_of(x: usize) -> i32
     requires { x < 2 ^ 24 }
@@ -87,12 +72,10 @@ pub fn pack(coefficients: &[i32], out: &mut [u8])
     requires each_in_three { EachInThree coefficients.now }
     ensures { out.new ≡ flat_map three_bytes coefficients.now }
 {
-    let mut p = 0;
-    while p < coefficients.len() {
+    for (p, z) in coefficients.iter().enumerate() {
         let at = words::COEFFICIENT_SIZE * p;
         let end = at + words::COEFFICIENT_SIZE;
-        put_number(bits_of(coefficients[p]), &mut out[at..end]);
-        p += 1;
+        put_number(bits_of(*z), &mut out[at..end]);
     }
 }
 
@@ -101,9 +84,7 @@ pub fn unpack(packed: &[u8], out: &mut [i32])
     requires { length out.old ≡ length packed.now / 3 }
     ensures { out.new ≡ unpacked packed.now }
 {
-    let mut p = 0;
-    while p < out.len() {
-        out[p] = coefficient_at(packed, p);
-        p += 1;
+    for (p, place) in out.iter_mut().enumerate() {
+        *place = coefficient_at(packed, p);
     }
 }

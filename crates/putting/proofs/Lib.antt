@@ -3,3 +3,4 @@ pub mod Putting
 pub mod Digits
 pub mod Numbers
 pub mod Flat
+pub mod Lines

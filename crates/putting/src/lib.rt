@@ -1,5 +1,6 @@
 // Printing into a lent buffer: bytes, numbers, grams and the line of a refusal. Each function prints from a place on,
-// needs room there for the longest that it can print, and answers the place after it.
+// needs room there for the longest that it can print, and answers the place after it. There is no heap, and the
+// contracts speak of the lent buffer (`Puts`, `PutsShort`), so what is printed is no `Display`.
 #![tactic(auto)]
 
 ghost use Rattle.std.specs.Prelude.{◌≡◌, [], ◌∷◌, ◌++◌, ◌+◌, ◌≤◌, ◌<◌, length};
@@ -14,12 +15,9 @@ pub fn put_bytes(out: &mut [u8], at: usize, bytes: &[u8]) -> usize
     requires { at + length bytes.now ≤ length out.old }
     ensures { Puts at bytes.now out.old out.new result }
 {
-    let mut k = 0;
-    while k < bytes.len() {
-        out[at + k] = bytes[k];
-        k += 1;
-    }
-    at + k
+    let next = at + bytes.len();
+    out[at..next].copy_from_slice(bytes);
+    next
 }
 
 // Prints one byte.
@@ -31,7 +29,7 @@ pub fn put_byte(out: &mut [u8], at: usize, byte: u8) -> usize
     at + 1
 }
 
-// The digit that stands for d. Needs d below 10.
+// The digit that stands for d. Needs d below 10. `from_digit` answers a `char` and may answer none: no plainer.
 fn digit_of(d: usize) -> u8
     requires { d < 10 }
     ensures { result ≡ digit d }

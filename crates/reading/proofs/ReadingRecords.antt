@@ -1,12 +1,14 @@
 -- Reading a record is reading its parts once it is opened: they are the table that its bytes state. Assumes nothing.
 use Rattle.kit.proofs.{◌≡◌, refl, sym, ap, ◌∙◌, List, ℕ, ◌+◌, ◌-◌, ◌*◌, ◌/◌, ◌≤◌, ◌<◌, arith, ℤ, pos, length, take}
+use Rattle.kit.proofs.{Err, Ok, Result}
 use Rattle.kit.proofs.{drop, length-drop, length-take-le, take-take, take-add, drop_at, drop-drop, ext_get_or}
-use Rattle.words.specs.declared.{Refusal.Refusal, Opening.Opening, Unpacking.Unpacking}
-use Rattle.om3.specs.Document.{P, lent, Check, passes, refuses, in_order, answer_by, Bytes, signed_from, bytes_at}
+use Rattle.words.specs.declared.{Refusal.Refusal, Opening.Opening}
+use Rattle.om3.specs.Document.{P, lent, Check, passes, refuses, in_order, Bytes, signed_from, bytes_at}
 use Rattle.om3.specs.Document.{header_size, hours_in, coefficient_in, table_in, opening_checks, unpacking_checks}
 use Rattle.om3.specs.Document.{opening}
 use Rattle.laws.proofs.{Lists.map-up-length, RecordsOpened.opens-formed, RecordsOpened.asked-unpacked}
 use Rattle.laws.proofs.{RecordsTaken.unpacking-parted}
+use Rattle.opening.proofs.Asked.{told, hours_told, places_told}
 use Rattle.packing.specs.Packing.{coefficient_from, unpacked}
 use Rattle.examining_bytes.specs.Packed.{PackedTable}
 use Rattle.reading.specs.Reading.{parts_check, PartsRead, RecordRead}
@@ -27,24 +29,21 @@ module _ (r : List ℕ) where
     pub hours : n ≡ hours_in r
     pub places : p ≡ P (hours_in r)
 
-  abbrev told : Check → Opening
-  told c = answer_by Opening.Refused c (Opening.Record (hours_in r) (P (hours_in r)))
-
-  pub opened : (n p : ℕ) → Opening.Record n p ≡ opening r → Opened n p
+  pub opened : (o : Opening) → Ok o ≡ opening r → Opened o.hours o.places
   unfolding opening
-  opened n p e = by (in_order (opening_checks r)) refl e
+  opened o e = by (in_order (opening_checks r)) refl e
     where
-      by : (c : Check) → in_order (opening_checks r) ≡ c → Opening.Record n p ≡ told c → Opened n p
-      by passes o h = record { opens = o; hours = cc; places = cc }
-      by (refuses why) o h = let z : ◌≡◌ {A = ℕ} 0 1 = cc in absurd (omega arith)
+      by : (c : Check) → in_order (opening_checks r) ≡ c → Ok o ≡ told r c → Opened o.hours o.places
+      by passes opens h = record { opens = opens; hours = ap hours_told h; places = ap places_told h }
+      by (refuses why) opens h = let z : ◌≡◌ {A = ℕ} 0 1 = cc in absurd (omega arith)
 
-  pub refused-read : (why : Refusal) → Opening.Refused why ≡ opening r → Bytes r → (cs : List ℤ) (ks : List ℕ)
-      → RecordRead r cs ks cs ks (Unpacking.Refused why)
+  pub refused-read : (why : Refusal) → Err why ≡ opening r → Bytes r → (cs : List ℤ) (ks : List ℕ)
+      → RecordRead r cs ks cs ks (Err why)
   unfolding opening
   refused-read why e bytes cs ks = by (in_order (opening_checks r)) refl e
     where
-      by : (c : Check) → in_order (opening_checks r) ≡ c → Opening.Refused why ≡ told c
-          → RecordRead r cs ks cs ks (Unpacking.Refused why)
+      by : (c : Check) → in_order (opening_checks r) ≡ c → Err why ≡ told r c
+          → RecordRead r cs ks cs ks (Err why)
       by passes o h = let z : ◌≡◌ {A = ℕ} 0 1 = cc in absurd (omega arith)
       by (refuses other) o h =
           let same : why ≡ other = cc in
@@ -63,7 +62,7 @@ module _ (r : List ℕ) where
     abbrev codes : List ℕ
     codes = take (length r - after) (drop after r)
 
-    pub record-length : length r ≡ after + p / 2
+    record-length : length r ≡ after + p / 2
     record-length = rw o.places (omega (arith, (opens-formed r o.opens).sized))
 
     packed-room : after - header_size ≤ length (drop header_size r)
@@ -110,7 +109,7 @@ module _ (r : List ℕ) where
       checks-left : parts_check n packed codes cs ks ≡ in_order (unpacking_checks r (lent cs ks))
       checks-left = rw (unpacking-parted r (lent cs ks), o.opens, coefficients-in, codes-in, o.hours)
 
-      pub parts-read : {cs' : List ℤ} {ks' : List ℕ} {u : Unpacking} → Bytes r
+      pub parts-read : {cs' : List ℤ} {ks' : List ℕ} {u : Result ℕ Refusal} → Bytes r
           → PartsRead n packed codes cs ks cs' ks' u → RecordRead r cs ks cs' ks' u
       parts-read bytes x =
           record {
@@ -119,3 +118,8 @@ module _ (r : List ℕ) where
             coefficients = rw (← checks-left, ← coefficients-in) x.coefficients;
             codes = rw (← checks-left, ← codes-in) x.codes;
           }
+
+-- The bytes of an opened record are those of its header, its coefficients and its codes.
+pub opened_length : (r : List ℕ) {o : Opening} → Ok o ≡ opening r
+    → length r ≡ header_size + 3 * o.places + o.places / 2
+opened_length r {o} e = record-length r o.hours o.places (opened r o e)

@@ -4,7 +4,8 @@
 --   PartsRead             the contract of reading the parts of an opened record
 --   RecordRead            the contract of `read_record`: its answer, and the lent coefficients and codes whole
 use Rattle.std.specs.Prelude.{◌≡◌, List, [], ◌∷◌, ℕ, ℤ}
-use Rattle.words.specs.declared.Unpacking.{Unpacking}
+use Rattle.std.specs.Prelude.{Err, Ok, Result}
+use Rattle.words.specs.declared.Refusal.{Refusal}
 use Rattle.om3.specs.Table.{lent}
 use Rattle.om3.specs.Checks.{Check, in_order, answer_by}
 use Rattle.om3.specs.Refusals.{table_short, check_room, examine_table}
@@ -21,15 +22,15 @@ parts_check n bs qs cs ks =
 
 -- These parts become a table in the lent coefficients cs and codes ks.
 pub record PartsRead (n : ℕ) (bs qs : List ℕ) (cs : List ℤ) (ks : List ℕ) (cs' : List ℤ) (ks' : List ℕ)
-    (r : Unpacking) : Type 0 where
-  pub answer : r ≡ answer_by Unpacking.Refused (parts_check n bs qs cs ks) (Unpacking.Hours n)
+    (r : Result ℕ Refusal) : Type 0 where
+  pub answer : r ≡ answer_by Err (parts_check n bs qs cs ks) (Ok n)
   pub coefficients : cs' ≡ written_by (parts_check n bs qs cs ks) (unpacked bs) cs
   pub codes : ks' ≡ written_by (parts_check n bs qs cs ks) qs ks
 
 -- The record r, of bytes as every lent slice of them is, becomes the table of its hours in the lent coefficients cs and
 -- codes ks.
 -- [refusals 14, 15, 16, 19] [statements 1]
-pub record RecordRead (r : List ℕ) (cs : List ℤ) (ks : List ℕ) (cs' : List ℤ) (ks' : List ℕ) (u : Unpacking)
+pub record RecordRead (r : List ℕ) (cs : List ℤ) (ks : List ℕ) (cs' : List ℤ) (ks' : List ℕ) (u : Result ℕ Refusal)
     : Type 0 where
   pub bytes : Bytes r
   pub answer : u ≡ unpacking r (lent cs ks)

@@ -7,34 +7,32 @@
 // so; input that was not read to its end is not rebuilt.
 #![tactic(auto)]
 
-use old_text::Rebuilding;
-use streams::Input;
-
-// Writes all of this to standard output, and answers whether it could.
-fn write_piece(rt: &HostRuntime, piece: &[u8]) -> bool {
-    streams::write_piece(rt, b"rebuilder: cannot write standard output", piece)
-}
+use words::Refusal;
 
 // Prints piece after piece, up to the last hour that there can be, as far as they can be written.
-fn print_all(rt: &HostRuntime, rebuilding: Rebuilding, hours: &[i32; words::LARGEST_HOURS]) {
+// The column printer has the same loop: a closure that prints into `&mut [u8; ROOM]`, a const parameter, gets no proof.
+fn print_all(
+    rt: &HostRuntime,
+    rebuilding: Result<usize, Refusal>,
+    hours: &[i32; words::LARGEST_HOURS],
+) {
     let mut out = [0u8; old_text::ROOM];
-    let mut from = 0;
-    while from < words::LARGEST_HOURS {
+    for from in (0..words::LARGEST_HOURS).step_by(old_text::HOURS_AT_ONCE) {
         let size = old_text::print(rebuilding, hours, from, &mut out);
-        if !write_piece(rt, &out[..size]) {
+        if !streams::write_piece(rt, b"rebuilder: cannot write standard output", &out[..size]) {
             return;
         }
-        from += old_text::HOURS_AT_ONCE;
     }
 }
 
+// The column printer has a main of this shape, over other buffers of fixed size: a common one would be no plainer.
 fn main(rt: HostRuntime) {
     let mut line = [0u8; parsing::KEPT];
     let mut hours = [0i32; words::LARGEST_HOURS];
     let mut counts = [0u16; words::LARGEST_HOURS];
     let mut flags = [0u8; words::LARGEST_HOURS];
     let cannot = b"rebuilder: cannot read standard input";
-    if let Input::Whole(text) = streams::read_text(&rt, cannot, &mut line, &mut hours) {
+    if let Some(text) = streams::read_text(&rt, cannot, &mut line, &mut hours) {
         let closed = parsing::close(text, &line, &mut hours);
         let rebuilding = old_text::decide(closed, &mut counts, &mut flags, &mut hours);
         print_all(&rt, rebuilding, &hours);

@@ -54,7 +54,7 @@ pub extern "C" fn sagivelume_make(
     ensures { Tells (Made n readings.now coefficients.old codes.old
         coefficients.new codes.new) taking_told result }
 {
-    told::tables::of_taking(making::make(n, readings, coefficients, codes))
+    making::make(n, readings, coefficients, codes).into()
 }
 
 // Turns a table of n hours back: needs P coefficients, P/2 codes and room for n hours. Refusals 1, 3, 4.
@@ -68,7 +68,7 @@ pub extern "C" fn sagivelume_turn_back(
     ensures { Tells (TurnedBack n coefficients.now codes.now
         hours.old hours.new) taking_told result }
 {
-    told::tables::of_taking(turning::turn_back(n, coefficients, codes, hours))
+    turning::turn_back(n, coefficients, codes, hours).into()
 }
 
 // Rebuilds the series of an old scale's log of n hours, from the weight at its first recorded hour: needs n counts, n
@@ -84,7 +84,7 @@ pub extern "C" fn sagivelume_rebuild(
     ensures { Tells (Rebuilt n counts.now flags.now start
         hours.old hours.new) taking_told result }
 {
-    told::tables::of_taking(old_log::rebuild(n, counts, flags, start, hours))
+    old_log::rebuild(n, counts, flags, start, hours).into()
 }
 
 // Where level j's details stand in the lent coefficients of a table of n hours; length 0 where there is no such level.
@@ -107,7 +107,7 @@ pub extern "C" fn sagivelume_write_record(
     ensures { Tells (RecordWritten n coefficients.now codes.now
         bytes.old bytes.new) writing_told result }
 {
-    told::records::of_writing(writing::write_record(n, coefficients, codes, bytes))
+    writing::write_record(n, coefficients, codes, bytes).into()
 }
 
 // Reads a record into a table: needs room for P coefficients and P/2 codes. Refusals 8, 9, 1, 10, 8, 11, 3, 4.
@@ -120,7 +120,7 @@ pub extern "C" fn sagivelume_read_record(
     ensures { Tells (RecordRead bytes.now coefficients.old codes.old
         coefficients.new codes.new) unpacking_told result }
 {
-    told::records::of_unpacking(reading::read_record(bytes, coefficients, codes))
+    reading::read_record(bytes, coefficients, codes).into()
 }
 
 // Opens a record without unpacking it. Refusals 8, 9, 1, 10, 8, 11.
@@ -128,7 +128,7 @@ pub extern "C" fn sagivelume_read_record(
 pub extern "C" fn sagivelume_open_record(bytes: &[u8]) -> ToldRecord
     ensures { result ≡ opening_told (opening_of bytes.now) }
 {
-    told::records::of_opening(opening::open_record(bytes))
+    opening::open_record(bytes).into()
 }
 
 // Asks an opened record, which has so many places, for the coefficient at one of them. Refusals 13, 8.
@@ -136,7 +136,7 @@ pub extern "C" fn sagivelume_open_record(bytes: &[u8]) -> ToldRecord
 pub extern "C" fn sagivelume_ask(bytes: &[u8], places: usize, place: usize) -> ToldCoefficient
     ensures { result ≡ asking_told (asking_view bytes.now places place) }
 {
-    told::records::of_asking(opening::ask(bytes, places, place))
+    opening::ask(bytes, places, place).into()
 }
 
 // The hours of column `column` of the window [a, b) in w columns. Refusals 1, 5, 6.
@@ -150,7 +150,7 @@ pub extern "C" fn sagivelume_edges(
 ) -> ToldColumn
     ensures { result ≡ edges_told (edges n a b w column) }
 {
-    told::columns::of_edges(windows::edges(n, Timestamp(a), Timestamp(b), w, column))
+    windows::edges(n, Timestamp(a), Timestamp(b), w, column).into()
 }
 
 // That column stopped at a depth, from a table of n hours: needs P coefficients and P/2 codes. Refusals 1, 3, 5, 6, 7,
@@ -169,16 +169,8 @@ pub extern "C" fn sagivelume_stopped(
     ensures { result
         ≡ stopped_told (stopped n (lent coefficients.now codes.now) a b w column depth) }
 {
-    told::columns::of_stopped(columns::stopped(
-        n,
-        coefficients,
-        codes,
-        Timestamp(a),
-        Timestamp(b),
-        w,
-        column,
-        depth,
-    ))
+    let (a, b) = (Timestamp(a), Timestamp(b));
+    columns::stopped(n, coefficients, codes, a, b, w, column, depth).into()
 }
 
 // That column finished: needs P coefficients and P/2 codes. Refusals 1, 3, 5, 6, 4.
@@ -195,15 +187,8 @@ pub extern "C" fn sagivelume_finished(
     ensures { result
         ≡ finished_told (finished n (lent coefficients.now codes.now) a b w column) }
 {
-    told::columns::of_finished(columns::finished(
-        n,
-        coefficients,
-        codes,
-        Timestamp(a),
-        Timestamp(b),
-        w,
-        column,
-    ))
+    let (a, b) = (Timestamp(a), Timestamp(b));
+    columns::finished(n, coefficients, codes, a, b, w, column).into()
 }
 
 // The answer of the hours on the left and the answer of those on the right, together. No refusal.
@@ -211,10 +196,7 @@ pub extern "C" fn sagivelume_finished(
 pub extern "C" fn sagivelume_join(left: ToldAnswer, right: ToldAnswer) -> ToldAnswer
     ensures { result ≡ answer_told (joined (answer_in left) (answer_in right)) }
 {
-    told::columns::of_answer(answers::join(
-        told::columns::answer_in(left),
-        told::columns::answer_in(right),
-    ))
+    answers::join(left.into(), right.into()).into()
 }
 
 // The change of a day, from a table of n hours: its last reading minus the latest before that day, or minus its own
@@ -228,5 +210,5 @@ pub extern "C" fn sagivelume_day_change(
 ) -> ToldChange
     ensures { result ≡ change_told (day_change n (lent coefficients.now codes.now) day) }
 {
-    told::columns::of_change(days::day_change(n, coefficients, codes, day))
+    days::day_change(n, coefficients, codes, day).into()
 }

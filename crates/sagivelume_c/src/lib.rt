@@ -1,5 +1,6 @@
-// The boundary as C and Rust link it: each call of sagivelume under its name, with the same clauses. Numbers pass as
-// themselves, a slice as a pointer and then a length, and an answer as a struct by value.
+// The boundary as C and Rust link it: each call of sagivelume under its name, with the same clauses, since a static
+// library exports no function but its own. Numbers pass as themselves, a slice as a pointer and then a length, and an
+// answer as a struct by value.
 #![tactic(auto)]
 
 ghost use Rattle.std.specs.Prelude.{◌≡◌, length};

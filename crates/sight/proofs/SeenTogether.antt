@@ -1,16 +1,17 @@
 -- What is seen in two lists of nodes, one after the other; that nodes that do not touch the column add nothing; and the
 -- inner nodes of two visits together. Assumes nothing.
-use Rattle.kit.proofs.{◌≡◌, refl, sym, ap, ◌∙◌, Bool, true, false, cond, List, [], ◌∷◌, ◌++◌, append-nil, ℕ, ℤ}
-use Rattle.words.specs.declared.{Column.Column, Range.Range, Range.TheVariants.Empty}
+use Rattle.kit.proofs.{◌≡◌, refl, sym, ap, ◌∙◌, Bool, true, false, cond, List, [], ◌∷◌, ◌++◌, append-nil, ℕ, ℤ, Some}
+use Rattle.kit.proofs.{None, Option}
+use Rattle.sight.specs.Seen.{inner_as, unopened_of, both_inner, both_seen, InnerBelow, inner_over}
+use Rattle.words.specs.declared.{Column.Column, Range.Range}
 use Rattle.om3.specs.Document.{last_of, Node, Table, reached, range_over}
 use Rattle.laws.proofs.{Ranges.both-empty, BelowOpened.range-append}
 use Rattle.stepping.specs.Nodes.{reached_of, At, Below, touches_of}
 use Rattle.stepping.specs.declared.Reached.{Reached}
-use Rattle.sight.specs.Seen.{unopened_of, both_inner, both_seen, InnerBelow, inner_over}
 use Rattle.sight.specs.declared.{Inner.Inner, Seen.Seen}
 
 -- Two things seen with the same parts are the same.
-pub seen_same : {o p : Range} {i j : Inner} {c d : ℕ} → o ≡ p → i ≡ j → c ≡ d
+pub seen_same : {o p : Option Range} {i j : Option Inner} {c d : ℕ} → o ≡ p → i ≡ j → c ≡ d
     → ◌≡◌ {A = Seen} (record { outer = o; inner = i; opened = c }) (record { outer = p; inner = j; opened = d })
 seen_same e f g = λ k. record { outer = e k; inner = f k; opened = g k }
 
@@ -35,20 +36,20 @@ module _ (l : ℕ) (t : Table) where
   inner-append (v ∷ vs) (u ∷ us) =
       let e = sym (range-append l t (v ∷ vs) (u ∷ us)) in
       let f = ap (reached_of l t) (sym (last-append v u vs us)) in
-      λ k. Inner.Nodes (e k) (reached_of l t v) (f k)
+      λ k. inner_as (e k) (reached_of l t v) (f k)
 
   -- A node alone.
   pub inner-alone : (b : Bool) (v : Node) {at : Reached} → At l t v at
-      → cond b (Inner.Nodes at.range at at) Inner.Nothing ≡ inner_over l t (cond b (v ∷ []) [])
+      → cond b (inner_as at.range at at) None ≡ inner_over l t (cond b (v ∷ []) [])
   unfolding range_over last_of
   inner-alone true v {at} here =
       let e = here.range ∙ sym (both-empty (reached l t v)) in
       let f = at_same here in
-      λ k. Inner.Nodes (e k) (f k) (f k)
+      λ k. inner_as (e k) (f k) (f k)
   inner-alone false v here = refl
 
-  pub outer-alone : (b : Bool) (v : Node) {r : Range} → r ≡ reached l t v
-      → cond b r Empty ≡ range_over l t (cond b (v ∷ []) [])
+  pub outer-alone : (b : Bool) (v : Node) {r : Option Range} → r ≡ reached l t v
+      → cond b r None ≡ range_over l t (cond b (v ∷ []) [])
   unfolding range_over
   outer-alone true v e = e ∙ sym (both-empty (reached l t v))
   outer-alone false v e = refl
@@ -58,22 +59,22 @@ module _ (x : Column) (at : Reached) (no : touches_of x at ≡ false) where
   pub nothing-before : (c : ℕ) (s : Seen) → both_seen (unopened_of x c at) s ≡ s
   nothing-before c s = rw no
 
-  inner-nothing : (i : Inner) → both_inner i Inner.Nothing ≡ i
-  inner-nothing Inner.Nothing = refl
-  inner-nothing (Inner.Nodes r first last) = refl
+  inner-nothing : (i : Option Inner) → both_inner i None ≡ i
+  inner-nothing None = refl
+  inner-nothing (Some met) = refl
 
   pub nothing-after : (s : Seen) → both_seen s (unopened_of x s.opened at) ≡ s
   nothing-after s = rw no (seen_same (both-empty s.outer) (inner-nothing s.inner) refl)
 
 -- The inner nodes of two visits.
 module _ (stop : ℕ) (cs : List ℤ) (ks : List ℕ) where
-  pub alone-below : (b : Bool) (range : Range) (at : Reached) → Below stop cs ks at
-      → InnerBelow stop cs ks (cond b (Inner.Nodes range at at) Inner.Nothing)
+  pub alone-below : (b : Bool) (range : Option Range) (at : Reached) → Below stop cs ks at
+      → InnerBelow stop cs ks (cond b (inner_as range at at) None)
   alone-below true range at p = (p, p)
   alone-below false range at p = tt
 
-  pub both_below : (i j : Inner) → InnerBelow stop cs ks i → InnerBelow stop cs ks j
+  pub both_below : (i j : Option Inner) → InnerBelow stop cs ks i → InnerBelow stop cs ks j
       → InnerBelow stop cs ks (both_inner i j)
-  both_below Inner.Nothing j p q = q
-  both_below (Inner.Nodes r first last) Inner.Nothing p q = p
-  both_below (Inner.Nodes r first last) (Inner.Nodes u first' last') p q = (p.0, q.1)
+  both_below None j p q = q
+  both_below (Some met) None p q = p
+  both_below (Some met) (Some met') p q = (p.0, q.1)

@@ -4,25 +4,23 @@
 ghost use Rattle.std.specs.Prelude.{◌≡◌, ◌+◌, ◌^◌, ◌<◌};
 ghost use Rattle.sight.specs.Seen.{unopened_of, both_inner, both_seen};
 
-use stepping::{Reached, by_parts, nodes};
+use stepping::{Reached, nodes};
 use words::{Column, Range};
 
-// The nodes of an inner range: the least low and the greatest high of all, and the first and the last of them.
+// The nodes of an inner range: the least low and the greatest high of all, and the first and the last of them. Without
+// any node there is no `Inner`.
 #[derive(Clone, Copy)]
-pub enum Inner {
-    Nothing,
-    Nodes {
-        range: Range,
-        first: Reached,
-        last: Reached,
-    },
+pub struct Inner {
+    pub range: Option<Range>,
+    pub first: Reached,
+    pub last: Reached,
 }
 
 // What a visit has seen: the outer range, the nodes of the inner one, and how many nodes are opened by now.
 #[derive(Clone, Copy)]
 pub struct Seen {
-    pub outer: Range,
-    pub inner: Inner,
+    pub outer: Option<Range>,
+    pub inner: Option<Inner>,
     pub opened: usize,
 }
 
@@ -31,71 +29,32 @@ pub fn unopened(x: Column, opened: usize, at: Reached) -> Seen
     requires { at.from.0 + at.hours < 2 ^ 64 }
     ensures { result ≡ unopened_of x opened at }
 {
-    let range = at.range;
-    if nodes::touches(x, at) {
-        if nodes::is_inside(x, at) {
-            return Seen {
-                outer: range,
-                inner: Inner::Nodes {
-                    range,
-                    first: at,
-                    last: at,
-                },
-                opened,
-            };
-        }
-        return Seen {
-            outer: range,
-            inner: Inner::Nothing,
-            opened,
-        };
-    }
+    let touched = nodes::touches(x, at);
+    let inside = touched && nodes::is_inside(x, at);
+    let alone = Inner {
+        range: at.range,
+        first: at,
+        last: at,
+    };
     Seen {
-        outer: Range::Empty,
-        inner: Inner::Nothing,
+        outer: if touched { at.range } else { None },
+        inner: inside.then_some(alone),
         opened,
     }
 }
 
-// A copy of inner nodes, made from their parts: for speed alone, as stepping copies a node.
-fn copy_inner(inner: Inner) -> Inner
-    ensures { result ≡ inner }
-{
-    match inner {
-        Inner::Nothing => Inner::Nothing,
-        Inner::Nodes { range, first, last } => Inner::Nodes {
-            range: by_parts::copy_range(range),
-            first: by_parts::copy_node(first),
-            last: by_parts::copy_node(last),
-        },
-    }
-}
-
 // The inner nodes of the left half and then those of the right half.
-fn both_inner(a: Inner, b: Inner) -> Inner
+fn both_inner(a: Option<Inner>, b: Option<Inner>) -> Option<Inner>
     ensures { result ≡ both_inner a b }
 {
-    match a {
-        Inner::Nothing => copy_inner(b),
-        Inner::Nodes {
-            range,
-            first,
-            last: _,
-        } => match b {
-            Inner::Nothing => copy_inner(a),
-            Inner::Nodes {
-                range: further,
-                first: _,
-                last,
-            } => {
-                let all = node::both(by_parts::copy_range(range), by_parts::copy_range(further));
-                Inner::Nodes {
-                    range: all,
-                    first: by_parts::copy_node(first),
-                    last: by_parts::copy_node(last),
-                }
-            }
-        },
+    match (a, b) {
+        (None, _) => b,
+        (_, None) => a,
+        (Some(left), Some(right)) => Some(Inner {
+            range: node::both(left.range, right.range),
+            first: left.first,
+            last: right.last,
+        }),
     }
 }
 
@@ -103,15 +62,9 @@ fn both_inner(a: Inner, b: Inner) -> Inner
 pub fn both_seen(a: Seen, b: Seen) -> Seen
     ensures { result ≡ both_seen a b }
 {
-    let left = a.outer;
-    let right = b.outer;
-    let before = a.inner;
-    let after = b.inner;
-    let outer = node::both(by_parts::copy_range(left), by_parts::copy_range(right));
-    let inner = both_inner(before, after);
     Seen {
-        outer,
-        inner,
+        outer: node::both(a.outer, b.outer),
+        inner: both_inner(a.inner, b.inner),
         opened: b.opened,
     }
 }

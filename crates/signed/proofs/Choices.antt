@@ -1,36 +1,38 @@
 -- The lesser and the greater of two numbers, and the tests of equality, in their parts. Assumes nothing.
 use Rattle.kit.proofs.{◌≡◌, refl, sym, ap, ◌∙◌, Bool, true, false, cond, ◌&&◌, ℕ, ◌+◌, ◌<◌, ◌^◌, min, max, arith, ℤ}
-use Rattle.kit.proofs.{pos, negsuc, le_z, w32, SFits, to_z, of_z, to_z-of_z, eqb, eqb-true, ne_eqb}
-use Rattle.signed.specs.{min_z, max_z, eq_z, is_number}
-use Rattle.signed.proofs.Parts.{up, dn, ≡-parts, parts-≡, le_z-true, le_z-false, true-le_z, clash}
+use Rattle.kit.proofs.{pos, negsuc, le_z, lt_z, w32, SFits, to_z, of_z, to_z-of_z, eqb, eqb-true, ne_eqb}
+use Rattle.std.specs.Int.{int_min, int_max}
+use Rattle.signed.specs.{eq_z, is_number}
+use Rattle.signed.proofs.Parts.{up, dn, ≡-parts, parts-≡, lt_z-true, lt_z-false, le_z-true, true-le_z}
+use Rattle.signed.proofs.Parts.{clash}
 
-pub min-parts : (a b : ℤ) → up (min_z a b) + (dn a + dn b) ≡ min (up a + dn b) (up b + dn a) + dn (min_z a b)
-min-parts a b = by (le_z a b) refl
+pub min-parts : (a b : ℤ) → up (int_min a b) + (dn a + dn b) ≡ min (up a + dn b) (up b + dn a) + dn (int_min a b)
+min-parts a b = by (lt_z b a) refl
   where
-    by : (t : Bool) → le_z a b ≡ t
-        → up (cond t a b) + (dn a + dn b) ≡ min (up a + dn b) (up b + dn a) + dn (cond t a b)
-    by true e = omega (arith, le_z-true)
-    by false e = omega (arith, le_z-false)
+    by : (t : Bool) → lt_z b a ≡ t
+        → up (cond t b a) + (dn a + dn b) ≡ min (up a + dn b) (up b + dn a) + dn (cond t b a)
+    by true e = omega (arith, lt_z-true)
+    by false e = omega (arith, lt_z-false)
 
-pub max-parts : (a b : ℤ) → up (max_z a b) + (dn a + dn b) ≡ max (up a + dn b) (up b + dn a) + dn (max_z a b)
-max-parts a b = by (le_z a b) refl
+pub max-parts : (a b : ℤ) → up (int_max a b) + (dn a + dn b) ≡ max (up a + dn b) (up b + dn a) + dn (int_max a b)
+max-parts a b = by (lt_z b a) refl
   where
-    by : (t : Bool) → le_z a b ≡ t
-        → up (cond t b a) + (dn a + dn b) ≡ max (up a + dn b) (up b + dn a) + dn (cond t b a)
-    by true e = omega (arith, le_z-true)
-    by false e = omega (arith, le_z-false)
+    by : (t : Bool) → lt_z b a ≡ t
+        → up (cond t a b) + (dn a + dn b) ≡ max (up a + dn b) (up b + dn a) + dn (cond t a b)
+    by true e = omega (arith, lt_z-true)
+    by false e = omega (arith, lt_z-false)
 
 -- A hypothesis or a goal that a number is the lesser or the greater of two.
-pub ≡-min : (a b : ℤ) {z : ℤ} → z ≡ min_z a b → up z + (dn a + dn b) ≡ min (up a + dn b) (up b + dn a) + dn z
+pub ≡-min : (a b : ℤ) {z : ℤ} → z ≡ int_min a b → up z + (dn a + dn b) ≡ min (up a + dn b) (up b + dn a) + dn z
 ≡-min a b e = omega (arith, ≡-parts e, min-parts a b)
 
-pub ≡-max : (a b : ℤ) {z : ℤ} → z ≡ max_z a b → up z + (dn a + dn b) ≡ max (up a + dn b) (up b + dn a) + dn z
+pub ≡-max : (a b : ℤ) {z : ℤ} → z ≡ int_max a b → up z + (dn a + dn b) ≡ max (up a + dn b) (up b + dn a) + dn z
 ≡-max a b e = omega (arith, ≡-parts e, max-parts a b)
 
-pub min-≡ : (a b : ℤ) {z : ℤ} → up z + (dn a + dn b) ≡ min (up a + dn b) (up b + dn a) + dn z → z ≡ min_z a b
+pub min-≡ : (a b : ℤ) {z : ℤ} → up z + (dn a + dn b) ≡ min (up a + dn b) (up b + dn a) + dn z → z ≡ int_min a b
 min-≡ a b h = parts-≡ (omega (arith, min-parts a b))
 
-pub max-≡ : (a b : ℤ) {z : ℤ} → up z + (dn a + dn b) ≡ max (up a + dn b) (up b + dn a) + dn z → z ≡ max_z a b
+pub max-≡ : (a b : ℤ) {z : ℤ} → up z + (dn a + dn b) ≡ max (up a + dn b) (up b + dn a) + dn z → z ≡ int_max a b
 max-≡ a b h = parts-≡ (omega (arith, max-parts a b))
 
 pub is_number-true : (k : ℕ) (z : ℤ) → is_number k z ≡ true → z ≡ pos k

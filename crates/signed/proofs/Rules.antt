@@ -2,8 +2,8 @@
 -- difference or a choice that stands inside another term is handed over: `omega (signed, sub-parts a b, min-parts a
 -- b)`. Specific rules stand first, since `omega` applies the first that fits a hypothesis. Assumes nothing.
 use native.Mathlib.Omega.{arith}
-use Rattle.signed.proofs.Parts.{≡-parts, parts-≡, le_z-true, le_z-false, true-le_z, false-le_z, lt_z-true}
-use Rattle.signed.proofs.Parts.{lt_z-false, true-lt_z, false-lt_z, ≤-parts, parts-≤, <-parts, parts-<}
+use Rattle.signed.proofs.Parts.{≡-parts, parts-≡, le_z-true, le_z-false, true-le_z, false-le_z, lt_z-true, lt_z-false}
+use Rattle.signed.proofs.Parts.{true-lt_z, false-lt_z, ≤-parts, parts-≤, <-parts, parts-<}
 use Rattle.signed.proofs.Sums.{≡-sub, ≡-add, sub-≡, add-≡}
 use Rattle.signed.proofs.Widths.{sfits-sub, sfits-add, parts-sfits, back-sub, back-add, back, parts-non_neg}
 use Rattle.signed.proofs.Widths.{fits_nat_abs}

@@ -1,4 +1,4 @@
 -- Choices among signed numbers that definitions of the crates above are written with.
 pub mod Choice
 -- Passed on by their names alone.
-pub use Choice.{min_z, max_z, eq_z, is_number}
+pub use Choice.{eq_z, is_number}

@@ -7,9 +7,5 @@ ghost use Rattle.std.specs.Prelude.{◌≡◌, nat_abs};
 pub fn size_of(x: i32) -> usize
     ensures { result ≡ nat_abs x }
 {
-    let wide = x as i64;
-    if wide < 0 {
-        return (0 - wide) as usize;
-    }
-    wide as usize
+    x.unsigned_abs() as usize
 }

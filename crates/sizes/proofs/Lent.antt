@@ -2,11 +2,13 @@
 -- needed; what these two checks say, and of a call that begins with them. Assumes nothing.
 use Rattle.kit.proofs.{◌≡◌, ◌∙◌, true, false, List, [], ◌∷◌, ℕ, ◌/◌, ◌≤◌, ℤ, length}
 use Rattle.words.specs.declared.{Refusal.Refusal, Refusal.TheVariants.BadHours, Refusal.TheVariants.ShortBuffer}
-use Rattle.om3.specs.Document.{bad_hours, P, Table, lent, Check, passes, refuses, and_then, in_order, check_hours}
+use Rattle.om3.specs.Document.{bad_hours, Table, lent, Check, passes, refuses, and_then, in_order, check_hours}
 use Rattle.om3.specs.Document.{check_room, table_short}
 use Rattle.laws.proofs.{Examined.in-order-append}
 use Rattle.laws.proofs.Lent.{not_short, coefficients-there, codes-there}
-use Rattle.sizes.specs.{Lent.lent_check, Lent.TableLent, Lent.Passed, Needed.places_needed}
+use Rattle.sizes.specs.declared.table.LentTable.{LentTable}
+use Rattle.sizes.specs.{Lent.lent_check, Lent.TableLent, Lent.IsLent, Needed.places_needed}
+use Rattle.std.specs.Borrow.{Bor}
 
 module _ (n : ℕ) (cs : List ℤ) (ks : List ℕ) where
   pub table-lent : bad_hours n ≡ false → table_short n (lent cs ks) ≡ false → TableLent n cs ks
@@ -42,9 +44,6 @@ module _ (n : ℕ) (cs : List ℤ) (ks : List ℕ) where
     unfolding in_order
     enough h = rw (good, h)
 
-    pub lent-passed : table_short n T ≡ false → (p : ℕ) → p ≡ P n → Passed n cs ks p
-    lent-passed h p e = record { checks = enough h; table = table-lent n cs ks good h; places = e }
-
 -- The checks of a call that begin with these two: where they refuse, that decides; where they pass, the rest does.
 module _ (n : ℕ) (t : Table) (rest : List Check) where
   abbrev whole : Check
@@ -58,3 +57,12 @@ module _ (n : ℕ) (t : Table) (rest : List Check) where
 
   pub lent-passes : lent_check n t ≡ passes → whole ≡ in_order rest
   lent-passes e = parted ∙ rw e
+
+-- What a lent table is by its own invariant.
+pub is-lent : (t : LentTable) → TableLent t.table.n t.table.coefficients.now t.table.codes.now
+is-lent t = record { good = t.hours; coefficients = t.coefficients_lent; codes = t.codes_lent }
+
+-- What a table is that these two checks have answered: the one that was lent.
+pub lent-there : {n : ℕ} {cs : Bor (List ℤ)} {ks : Bor (List ℕ)} {t : LentTable} → IsLent n cs ks t
+    → TableLent n cs.now ks.now
+lent-there {t = t} h = rw (h.hours, h.coefficients, h.codes) at (is-lent t)

@@ -1,24 +1,21 @@
 -- Checks 1, 3 and 4 of a table that becomes something else, in a buffer of which so much is lent and so much needed,
 -- one after the other: those of turning back and of writing a record. Assumes nothing.
-use Rattle.kit.proofs.{◌≡◌, sym, ◌∙◌, Bool, true, false, ◌||◌, List, [], ◌∷◌, ℕ, ◌/◌, ◌≤◌, ◌<◌, ℤ, length}
-use Rattle.kit.proofs.{lt-ltb, le-ltb, ltb-false}
+use Rattle.kit.proofs.{◌≡◌, sym, ◌∙◌, Bool, true, false, ◌||◌, List, [], ◌∷◌, ℕ, ◌/◌, ◌≤◌, ◌<◌, ℤ, length, lt-ltb}
+use Rattle.kit.proofs.{le-ltb, ltb-false}
 use Rattle.words.specs.{largest_hours}
+use Rattle.words.specs.declared.Refusal.{Refusal}
 use Rattle.words.specs.declared.Refusal.TheVariants.{BadHours, ShortBuffer}
-use Rattle.om3.specs.Document.{bad_hours, P, Table, lent, Check, passes, refuses, in_order, check_hours, short}
-use Rattle.om3.specs.Document.{table_short}
-use Rattle.om3.specs.Document.{check_room, examine_table}
-use Rattle.laws.proofs.{Tests.neither, Making.good-some, Levels.P-most}
+use Rattle.om3.specs.Document.{bad_hours, P, Table, lent, Check, passes, refuses, refuse_if, and_then, in_order}
+use Rattle.om3.specs.Document.{check_hours, short}
+use Rattle.om3.specs.Document.{table_short, check_room, examine_table}
+use Rattle.laws.proofs.{Tests.neither, Levels.P-most}
 use Rattle.laws.proofs.Examined.{then-passes, order-parts, first_absent}
-use Rattle.sizes.specs.Lent.{Enough}
+use Rattle.sizes.specs.Lent.{lent_check, TableLent, Enough}
 use Rattle.sizes.proofs.Lent.{table-lent, table-room}
 
--- So many hours there are at most, and so many places.
-module _ (n : ℕ) where
-  pub hours-most : {bad : Bool} → bad ≡ bad_hours n → bad ≡ false → n ≤ largest_hours
-  hours-most told good = (good-some n (sym told ∙ good)).1
-
-  pub places-most : {p : ℕ} → p ≡ P n → p ≤ largest_hours
-  places-most e = rw e (P-most n)
+-- So many places there are at most.
+pub places-most : (n : ℕ) {p : ℕ} → p ≡ P n → p ≤ largest_hours
+places-most n e = rw e (P-most n)
 
 module _ (n : ℕ) (cs : List ℤ) (ks : List ℕ) (size needed : ℕ) where
   abbrev T : Table
@@ -53,6 +50,23 @@ module _ (n : ℕ) (cs : List ℤ) (ks : List ℕ) (size needed : ℕ) where
 
         pub enough : needed ≤ size → Enough n cs ks size needed
         enough h = record { table = table-lent n cs ks hours-good (sym table-found ∙ room); buffer = h }
+
+  -- By what checks 1 and 3 of the table say, and how much else is lent.
+  pub lent-refused : (why : Refusal) → lent_check n T ≡ refuses why → checks ≡ refuses why
+  unfolding in_order
+  lent-refused why e = by (bad_hours n) (table_short n T) e
+    where
+      by : (a b : Bool) → and_then (refuse_if a BadHours) (and_then (refuse_if b ShortBuffer) passes) ≡ refuses why
+          → and_then (refuse_if a BadHours)
+          (and_then (refuse_if (b || short size needed) ShortBuffer) (and_then (examine_table n T) passes))
+          ≡ refuses why
+      by true b e = e
+      by false true e = e
+      by false false e = cc
+
+  pub buffer-short : TableLent n cs ks → size < needed → checks ≡ refuses ShortBuffer
+  unfolding in_order
+  buffer-short t h = rw (t.good, table-room n cs ks t, lt-ltb size needed h)
 
   -- Only the table itself is still to examine.
   pub decided : Enough n cs ks size needed → checks ≡ examine_table n T

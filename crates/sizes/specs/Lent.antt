@@ -3,15 +3,17 @@
 --
 --   lent_check n t                 checks 1 and 3 of a table, as one
 --   TableLent n cs ks             checks 1 and 3 pass for a table of n hours in the buffers cs and ks
---   Passed n cs ks p              they have passed, and p is P
---   LentAs n cs ks r              the contract of these checks: what the answer r says of the table
+--   IsLent n cs ks t              they have passed, and t is the table in these buffers
+--   LentTableOf n cs ks r         what the answer r says: that table, or the refusal of the first that refuses
 --   Enough n cs ks size needed    and as much of a further buffer is lent as is needed of it
-use Rattle.std.specs.Prelude.{◌≡◌, false, List, [], ◌∷◌, ℕ, ◌/◌, ◌≤◌, ℤ, length}
+use Rattle.std.specs.Prelude.{◌≡◌, false, List, [], ◌∷◌, ℕ, ◌/◌, ◌≤◌, ℤ, length, Err, Ok, Result}
+use Rattle.std.specs.Borrow.{Bor}
+use Rattle.words.specs.declared.Refusal.{Refusal}
+use Rattle.sizes.specs.declared.table.LentTable.{LentTable}
 use Rattle.om3.specs.Series.{bad_hours, P}
 use Rattle.om3.specs.Table.{Table, lent}
 use Rattle.om3.specs.Checks.{Check, passes, refuses, in_order}
 use Rattle.om3.specs.Refusals.{check_hours, check_room, table_short}
-use Rattle.sizes.specs.declared.Lending.{Lending}
 
 -- Of a table that is lent, these two come first. [refusals 17]
 abbrev pub lent_check : ℕ → Table → Check
@@ -23,16 +25,17 @@ pub record TableLent (n : ℕ) (cs : List ℤ) (ks : List ℕ) : Type 0 where
   pub coefficients : P n ≤ length cs
   pub codes : P n / 2 ≤ length ks
 
--- Where the two checks pass, the table is lent, and its places are told.
-pub record Passed (n : ℕ) (cs : List ℤ) (ks : List ℕ) (p : ℕ) : Type 0 where
-  pub checks : lent_check n (lent cs ks) ≡ passes
-  pub table : TableLent n cs ks
-  pub places : p ≡ P n
+-- The two checks have passed, and t is the table that was lent.
+pub record IsLent (n : ℕ) (cs : Bor (List ℤ)) (ks : Bor (List ℕ)) (t : LentTable) : Type 0 where
+  pub checks : lent_check n (lent cs.now ks.now) ≡ passes
+  pub hours : t.table.n ≡ n
+  pub coefficients : t.table.coefficients ≡ cs
+  pub codes : t.table.codes ≡ ks
 
 -- The refusal is that of the first check that refuses.
-abbrev pub LentAs : ℕ → List ℤ → List ℕ → Lending → Type 0
-LentAs n cs ks (Lending.Refused why) = lent_check n (lent cs ks) ≡ refuses why
-LentAs n cs ks (Lending.Places p) = Passed n cs ks p
+abbrev pub LentTableOf : ℕ → Bor (List ℤ) → Bor (List ℕ) → Result LentTable Refusal → Type 0
+LentTableOf n cs ks (Err why) = lent_check n (lent cs.now ks.now) ≡ refuses why
+LentTableOf n cs ks (Ok t) = IsLent n cs ks t
 
 -- The table, and room for what it becomes. [refusals 15]
 pub record Enough (n : ℕ) (cs : List ℤ) (ks : List ℕ) (size needed : ℕ) : Type 0 where

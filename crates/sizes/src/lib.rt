@@ -6,17 +6,14 @@ ghost use Rattle.words.specs.Constants.{largest_level, largest_hours};
 ghost use Rattle.om3.specs.Series.{bad_hours, P};
 ghost use Rattle.om3.specs.Refusals.{short};
 ghost use Rattle.om3.specs.Record.{length_for};
-ghost use Rattle.sizes.specs.Lent.{LentAs};
+ghost use Rattle.sizes.specs.Lent.{LentTableOf};
 ghost use Rattle.sizes.specs.Needed.{places_needed, bytes_needed};
 
 use words::Refusal;
 
-// What checks 1 and 3 of a table answer: its refusal, or P, for which both buffers are long enough.
-#[derive(Clone, Copy)]
-pub enum Lending {
-    Refused(Refusal),
-    Places(usize),
-}
+mod table;
+
+pub use table::{LentTable, Table};
 
 // Check 1: whether n is 0 or over 16,384.
 pub fn bad_hours(n: usize) -> bool
@@ -30,12 +27,7 @@ pub fn places(n: usize) -> usize
     requires { n ≤ largest_hours }
     ensures { result ≡ P n }
 {
-    if n <= 2 {
-        return 2;
-    }
-    // n - 1 has l bits: 2^l is the least power of two above it.
-    let l = 64 - usize::leading_zeros(n - 1);
-    1 << l
+    n.max(2).next_power_of_two()
 }
 
 // Check 3 of a table of p places: whether fewer coefficients or fewer codes are lent than it needs.
@@ -45,21 +37,30 @@ pub fn table_short(p: usize, coefficients: usize, codes: usize) -> bool
     coefficients < p || codes < p / 2
 }
 
-// Checks 1 and 3 of a table: why it is refused, or how many places it has.
-pub fn check_lent(n: usize, coefficients: &[i32], codes: &[u8]) -> Lending
-    ensures { LentAs n coefficients.now codes.now result }
+// Checks 1 and 3 of a table: the table as it is lent, or why it is refused.
+pub fn lent_table<'a>(
+    n: usize,
+    coefficients: &'a [i32],
+    codes: &'a [u8],
+) -> Result<LentTable<'a>, Refusal>
+    ensures { LentTableOf n coefficients.entry codes.entry result }
 {
     if bad_hours(n) {
-        return Lending::Refused(Refusal::BadHours);
+        return Err(Refusal::BadHours);
     }
     let p = places(n);
     if table_short(p, coefficients.len(), codes.len()) {
-        return Lending::Refused(Refusal::ShortBuffer);
+        return Err(Refusal::ShortBuffer);
     }
-    Lending::Places(p)
+    let table = Table {
+        n,
+        coefficients,
+        codes,
+    };
+    Ok(LentTable { table, p })
 }
 
-// 2^j, for a level j.
+// 2^j, for a level j. `pow` takes its exponent as a `u32`: no plainer.
 pub fn power(j: usize) -> usize
     requires { j ≤ largest_level }
     ensures { result ≡ 2 ^ j }
@@ -75,7 +76,8 @@ pub fn record_size(p: usize) -> usize
     words::HEADER_SIZE + words::COEFFICIENT_SIZE * p + p / 2
 }
 
-// P for n hours, or 0 if n is no number of hours: so many coefficients, and half as many codes, are to be lent.
+// P for n hours, or 0 if n is no number of hours: so many coefficients, and half as many codes, are to be lent. C takes
+// this number and the next as they are, so 0 stands for none.
 pub fn places_needed(n: usize) -> usize
     ensures { result ≡ places_needed n }
 {

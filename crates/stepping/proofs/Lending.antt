@@ -1,8 +1,6 @@
--- What is lent of a table is enough for a step down from each node that is opened, and for its halves; and how
--- large the numbers of its nodes are. Assumes nothing.
-use Rattle.kit.proofs.{◌≡◌, sym, ap, ◌∙◌, List, ℕ, suc, ◌+◌, ◌-◌, ◌*◌, ◌^◌, ◌≤◌, ◌<◌}
-use Rattle.kit.proofs.{two-pow-succ, mul-le-mul_right, suc-mul, arith, ℤ, length, pow_pos, pow_mono, pow-add, ltb-true}
-use Rattle.kit.proofs.{ltb-false}
+-- What is lent of a table is enough for a step down from each node that is opened, and for its halves. Assumes nothing.
+use Rattle.kit.proofs.{◌≡◌, sym, ap, ◌∙◌, List, ℕ, suc, ◌+◌, ◌-◌, ◌*◌, ◌^◌, ◌≤◌, ◌<◌, Option, two-pow-succ}
+use Rattle.kit.proofs.{mul-le-mul_right, suc-mul, arith, ℤ, length, pow_pos, pow_mono, pow-add, ltb-true, ltb-false}
 use Rattle.words.specs.{largest_hours, Readings}
 use Rattle.words.specs.declared.Range.{Range}
 use Rattle.om3.specs.Document.{levels, Node, InTree, left, right, start, width}
@@ -47,13 +45,6 @@ module _ {stop : ℕ} {cs : List ℤ} {ks : List ℕ} {at : Reached} (below : Be
       let here = below.located in
       omega (arith, node-ends below.levels v here.in_tree, here.begins, here.covers, pow_mono below.most)
 
-  -- Its number is not too large to be doubled.
-  pub small-number : at.id.0 + 1 ≤ 2 * largest_hours
-  small-number =
-      let here = below.located in
-      let tree = here.in_tree in
-      omega (arith, here.numbered, tree.among, pow_mono tree.deep, pow_mono below.most)
-
   -- It is opened: its details are there, or its code if it is a pair.
   module _ (wide : stop < at.hours) (two : 2 ≤ at.hours) where
     pair_code : at.hours < 4 → at.from.0 + 2 ≤ 2 * length ks
@@ -91,7 +82,7 @@ module _ {stop : ℕ} {cs : List ℤ} {ks : List ℕ} {at : Reached} (below : Be
         readings = p;
       }
 
-  module _ (two : 2 ≤ at.hours) (r : Range) (p : Readings r) where
+  module _ (two : 2 ≤ at.hours) (r : Option Range) (p : Readings r) where
     pub left_below : Below stop cs ks (left_reached at r)
     left_below = half-below (left v) (left-located below.located two) p
 

@@ -1,20 +1,20 @@
 -- One step down, at a pair and at a node of two halves: its answer is the node's halves if it is sound, and these are
 -- ranges of readings. Assumes nothing.
-use Rattle.kit.proofs.{◌≡◌, sym, ◌∙◌, Bool, ◌&&◌, List, ℕ, ◌+◌, ◌*◌, ◌/◌, ◌≤◌, ◌<◌, ℤ, pos, get_or}
+use Rattle.kit.proofs.{◌≡◌, sym, ◌∙◌, Bool, ◌&&◌, List, ℕ, ◌+◌, ◌*◌, ◌/◌, ◌≤◌, ◌<◌, ℤ, pos, get_or, Option}
+use Rattle.node.specs.Steps.{halves_as, halves_of}
 use Rattle.words.specs.{declared.NodeId.NodeId, declared.Timestamp.Timestamp, declared.Range.Range, Readings}
 use Rattle.om3.specs.Document.{hour, Node, Table, lent, first_of_pair, second_of_pair, sound_code, gap_from}
 use Rattle.laws.proofs.{Tests.and_left, Nodes.pair-yes, Nodes.pair-no, Reached.reached-left, Reached.reached-right}
 use Rattle.laws.proofs.{SoundCodes.coded}
 use Rattle.node.proofs.Located.{above-pairs, at_pair}
 use Rattle.node.specs.declared.Halves.{Halves}
-use Rattle.node.specs.Steps.{halves_of}
 use Rattle.examining.specs.Examining.{pair_at}
 use Rattle.examining.proofs.Answers.{stepped}
 use Rattle.examining.proofs.Examining.{code-index, sound-pair, sound-node, left-readings, right-readings}
 use Rattle.stepping.specs.{Nodes.At, Stepping.halves_at, Stepping.SteppedDown}
 use Rattle.stepping.specs.declared.Reached.{Reached}
 
-module _ (n : ℕ) (cs : List ℤ) (ks : List ℕ) (i : NodeId) (h : Timestamp) (w : ℕ) (range : Range) where
+module _ (n : ℕ) (cs : List ℤ) (ks : List ℕ) (i : NodeId) (h : Timestamp) (w : ℕ) (range : Option Range) where
   abbrev T : Table
   T = lent cs ks
 
@@ -44,14 +44,14 @@ module _ (n : ℕ) (cs : List ℤ) (ks : List ℕ) (i : NodeId) (h : Timestamp) 
           ← at.range,
         )
 
-    pair-readings : (a b : Range) → pair_at n ks h.0 range ≡ Halves.Sound a b → Readings a × Readings b
+    pair-readings : (a b : Option Range) → pair_at n ks h.0 range ≡ halves_as a b → Readings a × Readings b
     pair-readings a b e =
         let s = stepped (sound_code range c && F && S) (first_of_pair range c) (second_of_pair range c) e in
         let fits = and_left (sound_code range c) F (and_left (sound_code range c && F) S s.is_sound) in
         let halves = (coded range c p fits).halves in
         (rw s.first halves.readings-left, rw s.second halves.readings-right)
 
-    pub pair-stepped : (r : Halves) → r ≡ pair_at n ks h.0 range → SteppedDown n cs ks here r
+    pub pair-stepped : (r : Option Halves) → r ≡ pair_at n ks h.0 range → SteppedDown n cs ks here r
     pair-stepped r e =
         record { halves = λ l v at. e ∙ pair-down l v at; readings = λ a b h. pair-readings a b (sym e ∙ h) }
 
@@ -75,7 +75,7 @@ module _ (n : ℕ) (cs : List ℤ) (ks : List ℕ) (i : NodeId) (h : Timestamp) 
           ← at.range,
         )
 
-    pub details-stepped : (r : Halves) → r ≡ halves_of range low high → SteppedDown n cs ks here r
+    pub details-stepped : (r : Option Halves) → r ≡ halves_of range low high → SteppedDown n cs ks here r
     details-stepped r e =
         record {
           halves = λ l v at. e ∙ details-down l v at;

@@ -1,7 +1,7 @@
 -- The tests that the code makes of a node are those of the definitions: it shares an hour with the column, lies wholly
 -- inside it, is opened. Assumes nothing.
 use Rattle.kit.proofs.{◌≡◌, refl, sym, ◌∙◌, Bool, true, false, not, ◌&&◌, and_assoc, ⊎_elim, ℕ, ◌+◌, ◌-◌, ◌^◌, ◌≤◌, ◌<◌}
-use Rattle.kit.proofs.{arith, leb, ltb, pow_mono, pow-lt, leb-true, ltb-true, le-leb, lt-ltb, le-ltb}
+use Rattle.kit.proofs.{Option, arith, leb, ltb, pow_mono, pow-lt, leb-true, ltb-true, le-leb, lt-ltb, le-ltb}
 use Rattle.words.specs.declared.{Column.Column, Range.Range}
 use Rattle.om3.specs.Document.{Node, left, right, width, Table, reached, has_reading, shares, inside, opened}
 use Rattle.laws.proofs.Tests.{and_left, and_right, both_true, below_or_not}
@@ -82,7 +82,7 @@ module _ {l : ℕ} {t : Table} {v : Node} {at : Reached} (here : At l t v at) wh
       (sym (and_assoc (has_reading l t v && shares l x v) (not (inside l x v)) (ltb v.level d)))
 
   -- The halves, where they have the ranges reached there.
-  module _ (two : 2 ≤ at.hours) {r : Range} where
+  module _ (two : 2 ≤ at.hours) {r : Option Range} where
     pub left_at : r ≡ reached l t (left v) → At l t (left v) (left_reached at r)
     left_at e = record { located = left-located here.located two; range = e }
 

@@ -12,7 +12,7 @@
 --   opened_of x stop at       it is opened, where nodes of the depth cover `stop` hours
 --   StopsAt l d x stop       the depth is d, whose nodes cover `stop` hours, and the column x has an hour
 use Rattle.std.specs.Prelude.{◌≡◌, Bool, not, ◌&&◌, List, ℕ, suc, ◌+◌, ◌-◌, ◌*◌, ◌/◌, ◌^◌, ◌≤◌, ◌<◌, leb, ltb, ℤ}
-use Rattle.std.specs.Prelude.{length}
+use Rattle.std.specs.Prelude.{Option, length}
 use Rattle.words.specs.Constants.{largest_level}
 use Rattle.words.specs.declared.Column.{Column}
 use Rattle.words.specs.declared.Range.{Range}
@@ -55,10 +55,10 @@ abbrev pub is_pair_of : ℕ → Bool
 is_pair_of w = ltb w 4
 
 -- The left half has twice the number and the first half of the hours; the right half one more, and the second half.
-abbrev pub left_reached : Reached → Range → Reached
+abbrev pub left_reached : Reached → Option Range → Reached
 left_reached at r = record { id = record { 0 = 2 * at.id.0 }; from = at.from; hours = at.hours / 2; range = r }
 
-abbrev pub right_reached : Reached → Range → Reached
+abbrev pub right_reached : Reached → Option Range → Reached
 right_reached at r = record {
   id = record { 0 = 2 * at.id.0 + 1 };
   from = hour (at.from.0 + at.hours / 2);

@@ -18,13 +18,6 @@ const MOST_TURNS: u64 = u64::MAX;
 // How many bytes of a reason are kept: the system's are shorter.
 const REASON: usize = 256;
 
-// What came of standard input: all of it, or not all.
-#[derive(Clone, Copy)]
-pub enum Input {
-    Whole(Text),
-    Cut,
-}
-
 // Waits a moment: a thousand nanoseconds, or how few the system can.
 fn pause(rt: &HostRuntime) {
     thread::sleep(rt, Duration::from_nanos(1000));
@@ -45,10 +38,9 @@ fn again(rt: &HostRuntime, why: &Error) -> bool {
 
 // The system's words of a reason, without its number, which std puts after them.
 fn words_of(reason: &str) -> &str {
-    match reason.find(" (os error ") {
-        Some(end) => reason.get(..end).unwrap_or(reason),
-        None => reason,
-    }
+    reason
+        .split_once(" (os error ")
+        .map_or(reason, |(words, _)| words)
 }
 
 // Prints these words and the system's reason as a line on standard error.
@@ -59,53 +51,48 @@ fn fail(rt: &HostRuntime, cannot: &[u8], why: &Error) {
     let _ = eprintln!(rt; ": {reason}");
 }
 
-// Reads all of standard input. A read that is tried again has brought no byte. Where the system cannot read, these
-// words and its reason are a line on standard error.
+// Reads all of standard input; `None` if not all of it could be read. A read that is tried again has brought no byte.
+// Where the system cannot read, these words and its reason are a line on standard error. The piece is a buffer of fixed
+// size with what a read told beside it: there is no heap.
 pub fn read_text(
     rt: &HostRuntime,
     cannot: &[u8],
     line: &mut [u8; parsing::KEPT],
     hours: &mut [i32; words::LARGEST_HOURS],
-) -> Input {
+) -> Option<Text> {
     let mut stdin = rt.stdin();
     let mut piece = [0u8; PIECE];
     let mut text = parsing::begin();
-    let mut left = MOST_TURNS;
-    while left > 0 {
+    for _ in 0..MOST_TURNS {
         match stdin.read(&mut piece) {
-            Ok(0) => return Input::Whole(text),
+            Ok(0) => return Some(text),
             Ok(n) => text = parsing::read(text, &piece[..n], line, hours),
+            Err(why) if again(rt, &why) => {}
             Err(why) => {
-                if !again(rt, &why) {
-                    fail(rt, cannot, &why);
-                    return Input::Cut;
-                }
+                fail(rt, cannot, &why);
+                return None;
             }
         }
-        left -= 1;
     }
-    Input::Cut
+    None
 }
 
 // Writes all of this to standard output, and answers whether it could. Where the system cannot write, these words and
 // its reason are a line on standard error.
 pub fn write_piece(rt: &HostRuntime, cannot: &[u8], piece: &[u8]) -> bool {
-    let mut done = 0;
-    let mut left = MOST_TURNS;
-    while done < piece.len() {
-        if left == 0 {
-            return false;
+    let mut rest = piece;
+    for _ in 0..MOST_TURNS {
+        if rest.is_empty() {
+            return true;
         }
-        match rt.write_some(&piece[done..]) {
-            Ok(n) => done += n,
+        match rt.write_some(rest) {
+            Ok(n) => rest = &rest[n..],
+            Err(why) if again(rt, &why) => {}
             Err(why) => {
-                if !again(rt, &why) {
-                    fail(rt, cannot, &why);
-                    return false;
-                }
+                fail(rt, cannot, &why);
+                return false;
             }
         }
-        left -= 1;
     }
-    true
+    rest.is_empty()
 }

@@ -1,8 +1,7 @@
 -- Demands 2 and 3 as the boundary tells them, of what its calls promise: what is shown of the calls behind it, with
 -- "taken" told as number 0. Assumes nothing.
-use Rattle.kit.proofs.{◌≡◌, refl, ap, ◌∙◌, false, List, ◌↔◌, ℕ, ◌≤◌, ℤ, length, take}
+use Rattle.kit.proofs.{◌≡◌, refl, ap, ◌∙◌, false, List, ◌↔◌, ℕ, ◌≤◌, ℤ, length, take, Ok}
 use Rattle.words.specs.{low_of, high_of}
-use Rattle.words.specs.declared.{Taking.Taking, Unpacking.Unpacking}
 use Rattle.om3.specs.Document.{Series, levels, table_of, HasTable, lent, table_short, filled, making_checks}
 use Rattle.om3.specs.Document.{turning_back_checks, HasRecord, hours_in, unpacking_checks, column, column_hours}
 use Rattle.om3.specs.Document.{finished, stopped, look_through, count, outer, inner, count_at, Drawn}
@@ -11,8 +10,8 @@ use Rattle.sizes.specs.Lent.{Enough}
 use Rattle.making.specs.Making.{Made}
 use Rattle.turning.specs.Turning.{TurnedBack}
 use Rattle.reading.specs.Reading.{RecordRead}
-use Rattle.told.specs.declared.{tables.Told.Told, records.ToldHours.ToldHours}
-use Rattle.told.specs.declared.columns.{ToldFinished.ToldFinished, ToldRanges.ToldRanges}
+use Rattle.told.specs.declared.{tables.Told.Told, records.ToldHours.ToldHours, columns.ToldFinished.ToldFinished}
+use Rattle.told.specs.declared.{columns.ToldRanges.ToldRanges}
 use Rattle.told.specs.{Tables.taking_told, Records.unpacking_told}
 use Rattle.told.specs.Columns.{answer_told, finished_told, stopped_told}
 use Rattle.sagivelume.specs.Boundary.{Tells}
@@ -23,10 +22,10 @@ use Rattle.theorems.proofs.Refused.{taking-zero, unpacking-zero}
 -- Making.
 module _ (n : ℕ) (s cs cs' : List ℤ) (ks ks' : List ℕ) (r : Told)
     (done : Tells (Made n s cs ks cs' ks') taking_told r) where
-  told-zero : (r.number ≡ 0) ↔ (done.answer ≡ Taking.Taken)
+  told-zero : (r.number ≡ 0) ↔ (done.answer ≡ Ok tt)
   told-zero = taking-zero (making_checks n s (lent cs ks)) r done.answer done.tells done.keeps.answer
 
-  taken : r.number ≡ 0 → Made n s cs ks cs' ks' Taking.Taken
+  taken : r.number ≡ 0 → Made n s cs ks cs' ks' (Ok tt)
   taken zero = rw (told-zero.0 zero) at done.keeps
 
   pub make-has : r.number ≡ 0 → Series n (take n s) × HasTable n (take n s) (lent cs' ks')
@@ -74,10 +73,9 @@ module _ (n : ℕ) (cs : List ℤ) (ks : List ℕ) (out : List ℤ) (room : Enou
 -- Reading, with room lent.
 module _ (bs : List ℕ) (cs : List ℤ) (ks : List ℕ) (room : table_short (hours_in bs) (lent cs ks) ≡ false)
     (cs' : List ℤ) (ks' : List ℕ) (r : ToldHours) (done : Tells (RecordRead bs cs ks cs' ks') unpacking_told r) where
-  read-zero : (r.number ≡ 0) ↔ (done.answer ≡ Unpacking.Hours (hours_in bs))
+  read-zero : (r.number ≡ 0) ↔ (done.answer ≡ Ok (hours_in bs))
   read-zero =
-      unpacking-zero (unpacking_checks bs (lent cs ks)) (hours_in bs) r done.answer done.tells
-      done.keeps.answer
+      unpacking-zero (unpacking_checks bs (lent cs ks)) (hours_in bs) r done.answer done.tells done.keeps.answer
 
   pub record-exactly : (r.number ≡ 0) ↔ ((s : List ℤ) × Series (hours_in bs) s × HasRecord (hours_in bs) s bs)
   record-exactly =

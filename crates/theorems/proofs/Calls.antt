@@ -1,13 +1,12 @@
 -- Demand 2 for the calls: what their contracts say of a table that is turned back, and of going there and back. Assumes
 -- nothing.
 use Rattle.kit.proofs.{◌≡◌, sym, ap, ◌∙◌, true, false, List, ◌↔◌, ℕ, ◌/◌, ◌≤◌, ℤ, length, get_or, take, get_or-take}
-use Rattle.kit.proofs.{le-ltb}
+use Rattle.kit.proofs.{le-ltb, Result, Ok}
+use Rattle.words.specs.declared.Refusal.{Refusal}
 use Rattle.words.specs.{largest_hours, gap}
-use Rattle.words.specs.declared.Taking.{Taking}
 use Rattle.om3.specs.Document.{Holds, Series, levels, P, Table, coefficient, code_of_place, table_of, HasTable, lent}
 use Rattle.om3.specs.Document.{turned_back, passes, in_order, sound_table, table_short, making_checks}
-use Rattle.om3.specs.Document.{turning_back_checks}
-use Rattle.om3.specs.Document.{filled}
+use Rattle.om3.specs.Document.{turning_back_checks, filled}
 use Rattle.sizes.specs.Lent.{TableLent, Enough}
 use Rattle.laws.proofs.{Filled.filled-first, Filled.filled-room, Lists.map-up-length, Lists.take-room}
 use Rattle.laws.proofs.{Examined.examine-sound, TurnedBack.turned-length, Making.good-some, Making.making-series}
@@ -29,9 +28,9 @@ module _ (n : ℕ) (cs : List ℤ) (ks : List ℕ) (out : List ℤ) where
     sound-passes : sound_table (levels n) n T ≡ true → in_order (turning_back_checks n T (length out)) ≡ passes
     sound-passes s = decided n cs ks (length out) n room ∙ (examine-sound (levels n) n T).1 s
 
-    module _ (out' : List ℤ) (r : Taking) (done : TurnedBack n cs ks out out' r) where
+    module _ (out' : List ℤ) (r : Result Unit Refusal) (done : TurnedBack n cs ks out out' r) where
       -- It is taken exactly if some series of n hours has the table ..
-      pub taken-exactly : (r ≡ Taking.Taken) ↔ ((s : List ℤ) × Series n s × HasTable n s T)
+      pub taken-exactly : (r ≡ Ok tt) ↔ ((s : List ℤ) × Series n s × HasTable n s T)
       taken-exactly =
           let exactly = demand2.sound-exactly n few.0 few.1 T (table-room n cs ks room.table) in
           let passes-sound = (examine-sound (levels n) n T).0 in (
@@ -68,7 +67,7 @@ module _ (n : ℕ) where
   l = levels n
 
   -- Turning back after making gives each reading and each gap at its own hour.
-  module _ (s cs cs' : List ℤ) (ks ks' : List ℕ) (made : Made n s cs ks cs' ks' Taking.Taken) where
+  module _ (s cs cs' : List ℤ) (ks ks' : List ℕ) (made : Made n s cs ks cs' ks' (Ok tt)) where
     made-passes : in_order (making_checks n s (lent cs ks)) ≡ passes
     made-passes = taken-passes _ made.answer
 
@@ -92,8 +91,8 @@ module _ (n : ℕ) where
     pub made-series : Series n first × HasTable n first (lent cs' ks')
     made-series = (first-series, has-table)
 
-    pub turned-back-after : (out out' : List ℤ) (r : Taking) → n ≤ length out → TurnedBack n cs' ks' out out' r
-        → (r ≡ Taking.Taken) × (out' ≡ filled first out)
+    pub turned-back-after : (out out' : List ℤ) (r : Result Unit Refusal) → n ≤ length out
+        → TurnedBack n cs' ks' out out' r → (r ≡ Ok tt) × (out' ≡ filled first out)
     turned-back-after out out' r hours done =
         let table : TableLent n cs' ks' =
         record {
@@ -118,11 +117,11 @@ module _ (n : ℕ) where
         let wide = le-ltb (length s) n (take-room n s series.size) in
         making-decided n good s (lent cs ks) (rw wide room) ∙ readings-pass n s lent-holds
 
-    pub make-writes : (cs' : List ℤ) (ks' : List ℕ) (r : Taking) → Made n s cs ks cs' ks' r
-        → (r ≡ Taking.Taken) × (cs' ≡ filled (table_of (levels n) n (take n s)).coefficients cs)
+    pub make-writes : (cs' : List ℤ) (ks' : List ℕ) (r : Result Unit Refusal) → Made n s cs ks cs' ks' r
+        → (r ≡ Ok tt) × (cs' ≡ filled (table_of (levels n) n (take n s)).coefficients cs)
         × (ks' ≡ filled (table_of (levels n) n (take n s)).codes ks) × HasTable n (take n s) (lent cs' ks')
     make-writes cs' ks' r made =
-        let taken : Made n s cs ks cs' ks' Taking.Taken =
+        let taken : Made n s cs ks cs' ks' (Ok tt) =
         record { answer = rw make-passes; coefficients = made.coefficients; codes = made.codes } in (
           rw make-passes at made.answer,
           details s cs cs' ks ks' taken,
@@ -131,7 +130,7 @@ module _ (n : ℕ) where
         )
 
   -- Making what was turned back gives the same table.
-  module _ (cs : List ℤ) (ks : List ℕ) (out out' : List ℤ) (done : TurnedBack n cs ks out out' Taking.Taken) where
+  module _ (cs : List ℤ) (ks : List ℕ) (out out' : List ℤ) (done : TurnedBack n cs ks out out' (Ok tt)) where
     turned-passes : in_order (turning_back_checks n (lent cs ks) (length out)) ≡ passes
     turned-passes = taken-passes _ done.answer
 
@@ -177,8 +176,8 @@ module _ (n : ℕ) where
           (rw (le-ltb (length out') n size) room₁)
           ∙ readings-pass n out' out-holds
 
-      pub made_after : (cs₂ : List ℤ) (ks₂ : List ℕ) (r : Taking) → Made n out' cs₁ ks₁ cs₂ ks₂ r
-          → (r ≡ Taking.Taken) × (cs₂ ≡ filled (take (P n) cs) cs₁) × (ks₂ ≡ filled (take (P n / 2) ks) ks₁)
+      pub made_after : (cs₂ : List ℤ) (ks₂ : List ℕ) (r : Result Unit Refusal) → Made n out' cs₁ ks₁ cs₂ ks₂ r
+          → (r ≡ Ok tt) × (cs₂ ≡ filled (take (P n) cs) cs₁) × (ks₂ ≡ filled (take (P n / 2) ks) ks₁)
       made_after cs₂ ks₂ r made = (
         rw made_again at made.answer,
         rw again-has.coefficients

@@ -1,17 +1,15 @@
 -- The changes of days, as the boundary tells them, from a table that a series has. Assumes nothing.
-use Rattle.kit.proofs.{◌≡◌, refl, ap, ◌∙◌, List, map, ℕ, ◌*◌, ◌<◌, ℤ, pos, neg_ℤ, ◌≤ℤ◌}
-use Rattle.words.specs.{day_hours, largest_reading, declared.DayChange.DayChange}
+use Rattle.kit.proofs.{◌≡◌, ap, ◌∙◌, List, map, ℕ, ◌*◌, ◌<◌, ℤ, pos, neg_ℤ, ◌≤ℤ◌, arith, Option, Result}
+use Rattle.words.specs.declared.Refusal.{Refusal}
+use Rattle.words.specs.{day_hours, largest_reading}
 use Rattle.om3.specs.Document.{total, Series, hours_from, HasTable, lent, change_of, day_change, days_of, added_by}
-use Rattle.om3.specs.Document.{span_of}
-use Rattle.om3.specs.Document.{look_through}
+use Rattle.om3.specs.Document.{span_of, look_through}
 use Rattle.laws.proofs.Days.{look_on, look_before, day-drawn, days-add-up, change-bounds}
 use Rattle.told.specs.{declared.columns.ToldChange.ToldChange, Columns.change_told}
 
 -- What is told as the change is what the day adds.
-told-adds : (c : DayChange) → (change_told c).grams ≡ added_by c
-told-adds DayChange.NoReading = refl
-told-adds (DayChange.Grams grams) = refl
-told-adds (DayChange.Refused why) = refl
+told-adds : (c : Result (Option ℤ) Refusal) → (change_told c).grams ≡ added_by c
+told-adds c = grind arith
 
 module _ (n : ℕ) (s cs : List ℤ) (ks : List ℕ) (series : Series n s) (has : HasTable n s (lent cs ks)) where
   module _ (d : ℕ) (there : day_hours * d < n) (r : ToldChange)

@@ -7,9 +7,9 @@ use denote.Ref.{Bor}
 use Rattle.kit.specs.Calls.{third, fourth}
 use Rattle.words.specs.{low_of, high_of}
 use Rattle.words.specs.declared.{Timestamp.Timestamp, Column.Column}
-use Rattle.om3.specs.Document.{Series, levels, hour_of, is_gap, Table, HasTable, lent, look, column}
-use Rattle.om3.specs.Document.{in_column, column_hours, look_through, Covers, LiesWithin, outer, inner, count_at, count}
-use Rattle.om3.specs.Document.{Drawn, Ranged}
+use Rattle.om3.specs.Document.{Series, levels, hour_of, is_gap, Table, HasTable, lent, look, column, in_column}
+use Rattle.om3.specs.Document.{column_hours, look_through, Covers, LiesWithin, outer, inner, count_at, count, Drawn}
+use Rattle.om3.specs.Document.{Ranged}
 use Rattle.laws.proofs as laws
 use Rattle.told.specs.Columns.{answer_told}
 use Rattle.sagivelume.proofs.Clauses as boundary

@@ -3,18 +3,15 @@
 -- a column without an hour has, how far a count goes, what a look through hours gives, and how numbers are printed.
 -- Assumes nothing.
 use Rattle.kit.proofs.{◌≡◌, Bool, true, false, List, [], ◌∷◌, ◌++◌, map, foldr, ◌↔◌, ℕ, ◌+◌, ◌-◌, ◌*◌, ◌/◌, ◌^◌, ◌≤◌}
-use Rattle.kit.proofs.{◌<◌, ℤ, length, get_or, take}
+use Rattle.kit.proofs.{◌<◌, ℤ, length, get_or, take, Option, None}
+use Rattle.words.specs.declared.{Summary.Summary, Timestamp.Timestamp, Column.Column}
 use Rattle.words.specs.{largest_hours}
-use Rattle.words.specs.declared.{Timestamp.Timestamp, Range.Range, Answer.Answer, Column.Column}
 use Rattle.om3.specs.Document.{every, Series, levels, P, Node, InTree, number, left, right, hours, node_of, Table}
 use Rattle.om3.specs.Document.{table_of, HasTable, turned_back, passes, in_order, table_nodes, sound_table, table_short}
 use Rattle.om3.specs.Document.{examine_table, Bytes, InThree, three_bytes, signed_from, record_size, record_of}
-use Rattle.om3.specs.Document.{hours_in}
-use Rattle.om3.specs.Document.{table_in, opening_checks, Openable, asking_view, asking, ceil, count_at, outer}
-use Rattle.om3.specs.Document.{inner_nodes}
-use Rattle.om3.specs.Document.{inner, inside_nodes, answer, count, joined, ascii, zero_digit, is_digit, value_of}
-use Rattle.om3.specs.Document.{decimal}
-use Rattle.om3.specs.Document.{look_through}
+use Rattle.om3.specs.Document.{hours_in, table_in, opening_checks, Openable, asking_view, asking, ceil, count_at, outer}
+use Rattle.om3.specs.Document.{inner_nodes, inner, inside_nodes, answer, count, joined, ascii, zero_digit, is_digit}
+use Rattle.om3.specs.Document.{value_of, decimal, look_through}
 use Rattle.laws.proofs as laws
 
 -- P is at least n, for up to 16,384 hours, at least 2, and the smallest such power of two.
@@ -132,13 +129,13 @@ ceil-least = laws.Arithmetic.ceil-least
 
 -- A column without an hour has neither range, no reading and count 0, stopped or finished.
 module _ (l : ℕ) (t : Table) (x : Column) (none : x.upto.0 ≤ x.from.0) where
-  no-hour-outer : (d : ℕ) → outer l t x d ≡ Range.Empty
+  no-hour-outer : (d : ℕ) → outer l t x d ≡ None
   no-hour-outer = laws.WithoutHours.none-outer l t x none
 
-  no-hour-inner : (d : ℕ) → inner l t x d ≡ Range.Empty
+  no-hour-inner : (d : ℕ) → inner l t x d ≡ None
   no-hour-inner = laws.WithoutHours.none-inner l t x none
 
-  no-hour-answer : answer l t x ≡ Answer.NoReading
+  no-hour-answer : answer l t x ≡ None
   no-hour-answer = laws.WithoutHours.none-answer l t x none
 
   no-hour-count : (d : ℕ) → count_at l t x d ≡ 0
@@ -157,7 +154,7 @@ inside-inner = laws.KeptNodes.inside-inner
 
 -- What a look through hours gives is the answers of the single hours, joined one after the other.
 look-through-joined : (n : ℕ) (s : List ℤ) (hs : List Timestamp)
-    → look_through n s hs ≡ foldr {B = Answer} joined Answer.NoReading (map (λ h. look_through n s (h ∷ [])) hs)
+    → look_through n s hs ≡ foldr {B = Option Summary} joined None (map (λ h. look_through n s (h ∷ [])) hs)
 look-through-joined = laws.LookedThrough.look-through-joined
 
 -- A number is printed in digits which, read as a numeral is read, have its value. The first of them is not 0 but for 0

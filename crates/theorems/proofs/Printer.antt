@@ -1,6 +1,7 @@
 -- The printer's calls, by their contracts, write what document 01 prints for all pieces together. Assumes nothing.
 use Rattle.kit.proofs.{◌≡◌, sym, ap, ◌∙◌, List, [], ◌∷◌, ◌++◌, foldl, flatten, ℕ, ◌+◌, ◌-◌, ◌^◌, ◌≤◌, ◌<◌, arith}
-use Rattle.kit.proofs.{length, take, drop, sets, sets-eq}
+use Rattle.kit.proofs.{length, take, drop, sets, sets-eq, Result}
+use Rattle.words.specs.declared.Refusal.{Refusal}
 use Rattle.om3.specs.Document.{Table, lent, filled}
 use Rattle.laws.proofs.Filled.{filled-first}
 use Rattle.parsing.specs.Parsing.{Progress, progress, begun, read_on, closed}
@@ -21,7 +22,7 @@ put_first text out h =
     let z : 0 + length text ≡ length text = omega arith in
     sets-eq text out 0 (omega arith) ∙ ap (λ m. text ++ drop m out) z
 
-module _ (d : Drawing) (t : Table) where
+module _ (d : Result Drawing Refusal) (t : Table) where
   -- What is written is the piece that is printed.
   written-piece : (from : ℕ) (text : List ℕ) → Written d t from text → text ≡ piece d t from
   written-piece from text w =

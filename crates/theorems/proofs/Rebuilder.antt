@@ -1,15 +1,16 @@
 -- The old log reader's calls one after the other write what is defined for the text. Assumes nothing.
 use Rattle.kit.proofs.{◌≡◌, sym, ap, ◌∙◌, List, [], ◌∷◌, foldl, flatten, ℕ, ◌-◌, ◌^◌, ◌≤◌, ◌<◌, arith, ℤ, length, take}
+use Rattle.kit.proofs.{Result}
+use Rattle.words.specs.declared.Refusal.{Refusal}
 use Rattle.laws.proofs.Filled.{filled-first}
 use Rattle.parsing.specs.Parsing.{Progress, progress, begun, read_on, closed}
-use Rattle.old_text.specs.declared.Rebuilding.{Rebuilding}
 use Rattle.old_text.specs.RebuiltText.{piece}
 use Rattle.old_text.proofs.InPieces.{rest, piece_then, rest-none}
 use Rattle.old_text.proofs.Whole.{rebuilt_after, decided-whole, rebuilt-in-pieces}
 use Rattle.theorems.specs.Rebuilder.{Written, WrittenFrom, Rebuilds}
 use Rattle.theorems.proofs.Printer.{read_all, put_first}
 
-module _ (d : Rebuilding) (s : List ℤ) where
+module _ (d : Result ℕ Refusal) (s : List ℤ) where
   -- What is written is the piece that is printed.
   written-piece : (from : ℕ) (text : List ℕ) → Written d s from text → text ≡ piece d s from
   written-piece from text w =

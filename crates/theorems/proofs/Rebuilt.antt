@@ -1,9 +1,8 @@
 -- Rebuilding the series of an old log, as the boundary tells it. Assumes nothing.
-use Rattle.kit.proofs.{◌≡◌, sym, ◌∙◌, false, ◌||◌, List, ◌↔◌, ℕ, ℤ, length, take}
-use Rattle.words.specs.declared.{Timestamp.Timestamp, Taking.Taking}
+use Rattle.kit.proofs.{◌≡◌, sym, ◌∙◌, false, ◌||◌, List, ◌↔◌, ℕ, ℤ, length, take, Ok}
+use Rattle.words.specs.declared.{Timestamp.Timestamp}
 use Rattle.om3.specs.Document.{Series, bad_hours, short, filled, rebuilt_series, rebuilding_checks, TrueLog}
-use Rattle.om3.specs.Document.{true_series}
-use Rattle.om3.specs.Document.{held_at, hour, in_order, rebuilt, recorded_hours}
+use Rattle.om3.specs.Document.{true_series, held_at, hour, in_order, rebuilt, recorded_hours}
 use Rattle.laws.proofs.{Filled.filled-first, Lists.map-up-length, Taken.taken-passes, OldLogs.rebuilt-series}
 use Rattle.laws.proofs.TrueLogs.{true-passes, true-series}
 use Rattle.old_log.specs.Rebuilding.{Rebuilt}
@@ -13,7 +12,7 @@ use Rattle.theorems.proofs.Refused.{taking-zero}
 
 module _ (n : ℕ) (counts flags : List ℕ) (start : ℤ) (out out' : List ℤ) (r : Told)
     (done : Tells (Rebuilt n counts flags start out out') taking_told r) where
-  told-zero : (r.number ≡ 0) ↔ (done.answer ≡ Taking.Taken)
+  told-zero : (r.number ≡ 0) ↔ (done.answer ≡ Ok tt)
   told-zero =
       taking-zero (rebuilding_checks n counts flags start (length out)) r done.answer done.tells
       done.keeps.answer

@@ -1,8 +1,9 @@
 -- Demand 2 for the calls of the record: what their contracts say of a record that is read, of one that was written, and
 -- of single coefficients. Assumes nothing.
 use Rattle.kit.proofs.{◌≡◌, refl, sym, ap, ◌∙◌, false, List, [], ◌∷◌, ◌↔◌, ℕ, ◌+◌, ◌*◌, ◌/◌, ◌≤◌, ◌<◌, arith, ℤ, pos}
-use Rattle.kit.proofs.{length, get_or, take, get_or-append, lt-leb, le-ltb}
-use Rattle.words.specs.declared.{Refusal.Refusal, Writing.Writing, Unpacking.Unpacking, Opening.Opening, Asking.Asking}
+use Rattle.kit.proofs.{length, get_or, take, get_or-append, lt-leb, le-ltb, Result, Ok, Err}
+use Rattle.words.specs.Said.{opened_as}
+use Rattle.words.specs.declared.Refusal.{Refusal}
 use Rattle.om3.specs.Document.{Series, levels, P, Table, table_of, HasTable, lent, Check, passes, refuses, and_then}
 use Rattle.om3.specs.Document.{in_order, answer_by, table_short, check_room, examine_table, filled, Bytes, record_size}
 use Rattle.om3.specs.Document.{record_of, HasRecord, header_size, hours_in, table_in, writing_checks, opening_checks}
@@ -22,27 +23,20 @@ use Rattle.reading.specs.Reading.{RecordRead}
 use Rattle.theorems.proofs.Calls.{filled-has}
 
 -- A call that answers is one whose checks passed.
-written-passes : (c : Check) (n b : ℕ) → Writing.Bytes b ≡ answer_by Writing.Refused c (Writing.Bytes (record_size n))
-    → (c ≡ passes) × (b ≡ record_size n)
-written-passes passes n b e = (refl, cc)
-written-passes (refuses why) n b e = (cc, cc)
-
-read-passes : (c : Check) (n m : ℕ) → Unpacking.Hours m ≡ answer_by Unpacking.Refused c (Unpacking.Hours n)
-    → (c ≡ passes) × (m ≡ n)
-read-passes passes n m e = (refl, cc)
-read-passes (refuses why) n m e = (cc, cc)
+answered : {A : Type 0} (c : Check) (x y : A) → Ok y ≡ answer_by Err c (Ok x) → (c ≡ passes) × (y ≡ x)
+answered passes x y e = (refl, cc)
+answered (refuses why) x y e = (cc, cc)
 
 -- Reading, with room lent.
 module _ (r : List ℕ) (bytes : Bytes r) (cs : List ℤ) (ks : List ℕ)
-    (room : table_short (hours_in r) (lent cs ks) ≡ false) (cs' : List ℤ) (ks' : List ℕ) (u : Unpacking)
+    (room : table_short (hours_in r) (lent cs ks) ≡ false) (cs' : List ℤ) (ks' : List ℕ) (u : Result ℕ Refusal)
     (done : RecordRead r cs ks cs' ks' u) where
   -- A record is taken exactly if some series of the hours that it states has it ..
-  pub read-exactly : (u ≡ Unpacking.Hours (hours_in r))
-      ↔ ((s : List ℤ) × Series (hours_in r) s × HasRecord (hours_in r) s r)
+  pub read-exactly : (u ≡ Ok (hours_in r)) ↔ ((s : List ℤ) × Series (hours_in r) s × HasRecord (hours_in r) s r)
   read-exactly =
       let exactly = reading-exactly r bytes (lent cs ks) room in
       let checks = in_order (unpacking_checks r (lent cs ks)) in (
-        λ e. exactly.0 (read-passes checks (hours_in r) (hours_in r) (sym e ∙ done.answer)).0,
+        λ e. exactly.0 (answered checks (hours_in r) (hours_in r) (sym e ∙ done.answer)).0,
         λ h. rw (exactly.1 h) at done.answer,
       )
 
@@ -58,13 +52,12 @@ module _ (r : List ℕ) (bytes : Bytes r) (cs : List ℤ) (ks : List ℕ)
       )
 
 -- A table that was written: with its hours and its room in order it is sound, so some series has it.
-module _ (n : ℕ) (cs : List ℤ) (ks out out' : List ℕ) (b : ℕ)
-    (done : RecordWritten n cs ks out out' (Writing.Bytes b)) where
+module _ (n : ℕ) (cs : List ℤ) (ks out out' : List ℕ) (b : ℕ) (done : RecordWritten n cs ks out out' (Ok b)) where
   abbrev T : Table
   T = lent cs ks
 
   written-checks : (in_order (writing_checks n T (length out)) ≡ passes) × (b ≡ record_size n)
-  written-checks = written-passes (in_order (writing_checks n T (length out))) n b done.answer
+  written-checks = answered (in_order (writing_checks n T (length out))) (record_size n) b done.answer
 
   both_right : Enough n cs ks (length out) (record_size n) × (examine_table n T ≡ passes)
   both_right = passed n cs ks (length out) (record_size n) written-checks.0
@@ -85,8 +78,8 @@ module _ (n : ℕ) (cs : List ℤ) (ks out out' : List ℕ) (b : ℕ)
 
   -- Reading them gives the same table and n.
   pub read-after-write : (cs₁ : List ℤ) (ks₁ : List ℕ) → table_short n (lent cs₁ ks₁) ≡ false
-      → (cs₂ : List ℤ) (ks₂ : List ℕ) (u : Unpacking) → RecordRead (take b out') cs₁ ks₁ cs₂ ks₂ u
-      → (u ≡ Unpacking.Hours n) × (cs₂ ≡ filled (take (P n) cs) cs₁) × (ks₂ ≡ filled (take (P n / 2) ks) ks₁)
+      → (cs₂ : List ℤ) (ks₂ : List ℕ) (u : Result ℕ Refusal) → RecordRead (take b out') cs₁ ks₁ cs₂ ks₂ u
+      → (u ≡ Ok n) × (cs₂ ≡ filled (take (P n) cs) cs₁) × (ks₂ ≡ filled (take (P n / 2) ks) ks₁)
   read-after-write cs₁ ks₁ room cs₂ ks₂ u read =
       let s = some-series.0 in
       let series = some-series.1 in
@@ -101,9 +94,9 @@ module _ (n : ℕ) (cs : List ℤ) (ks out out' : List ℕ) (b : ℕ)
 
 -- A record that was read.
 module _ (r : List ℕ) (cs : List ℤ) (ks : List ℕ) (cs' : List ℤ) (ks' : List ℕ) (n : ℕ)
-    (done : RecordRead r cs ks cs' ks' (Unpacking.Hours n)) where
+    (done : RecordRead r cs ks cs' ks' (Ok n)) where
   both : (in_order (unpacking_checks r (lent cs ks)) ≡ passes) × (n ≡ hours_in r)
-  both = read-passes (in_order (unpacking_checks r (lent cs ks))) (hours_in r) n done.answer
+  both = answered (in_order (unpacking_checks r (lent cs ks))) (hours_in r) n done.answer
 
   abbrev read-checks : in_order (unpacking_checks r (lent cs ks)) ≡ passes
   read-checks = both.0
@@ -134,12 +127,12 @@ module _ (r : List ℕ) (cs : List ℤ) (ks : List ℕ) (cs' : List ℤ) (ks' : 
       (omega (arith, a, coefficients-there k t room), omega (arith, b, codes-there k t room))
 
   -- Opening it answers n and P ..
-  opened-read : opening r ≡ Opening.Record n (P n)
+  opened-read : opening r ≡ opened_as n (P n)
   unfolding opening
   opened-read = rw (opens, stated-hours)
 
   -- .. and a coefficient asked for is the one that was unpacked.
-  viewed : (p : ℕ) → p < P n → asking_view r (P n) p ≡ Asking.Coefficient (get_or cs' p (pos 0))
+  viewed : (p : ℕ) → p < P n → asking_view r (P n) p ≡ Ok (get_or cs' p (pos 0))
   unfolding asking_view in_order
   viewed p h =
       let h' : p < P (hours_in r) = rw (← stated-hours) h in
@@ -149,10 +142,9 @@ module _ (r : List ℕ) (cs : List ℤ) (ks : List ℕ) (cs' : List ℤ) (ks' : 
       omega (arith, coefficients-there (hours_in r) (table_in r) (opened-room r opens)) in
       let e = rw read-checks at done.coefficients in
       rw (stated-hours, lt-leb (P (hours_in r)) p h', le-ltb (length r) (header_size + 3 * p + 3) reached, e)
-      (ap Asking.Coefficient
-      (asked-unpacked r p h' ∙ sym (get_or-append (table_in r).coefficients _ (pos 0) p there)))
+      (ap Ok (asked-unpacked r p h' ∙ sym (get_or-append (table_in r).coefficients _ (pos 0) p there)))
 
-  pub asked-read : (p : ℕ) → p < P n → asking r p ≡ Asking.Coefficient (get_or cs' p (pos 0))
+  pub asked-read : (p : ℕ) → p < P n → asking r p ≡ Ok (get_or cs' p (pos 0))
   asked-read p h = sym (opened-asked r p n (P n) (sym opened-read)) ∙ viewed p h
 
   -- Its bytes are bytes.
@@ -164,7 +156,7 @@ module _ (r : List ℕ) (cs : List ℤ) (ks : List ℕ) (cs' : List ℤ) (ks' : 
     left-table : (s : List ℤ) → Series (hours_in r) s → HasRecord (hours_in r) s r
         → HasTable (hours_in r) s (lent cs' ks')
     left-table s series has =
-        let left = read-writes r bytes cs ks room-lent cs' ks' (Unpacking.Hours n) done s series has in
+        let left = read-writes r bytes cs ks room-lent cs' ks' (Ok n) done s series has in
         filled-has (hours_in r) s cs cs' ks ks' left.0 left.1
 
     -- .. so writing it is taken.
@@ -185,8 +177,8 @@ module _ (r : List ℕ) (cs : List ℤ) (ks : List ℕ) (cs' : List ℤ) (ks' : 
         ∙ (examine-sound (levels k) k (lent cs' ks')).1 (demand2.has-sound k its-series.0 (lent cs' ks') series has)
 
     -- Written again from the table that reading left, it is the same record.
-    pub write-after-read : (out out' : List ℕ) (w : Writing) → length r ≤ length out
-        → RecordWritten n cs' ks' out out' w → (w ≡ Writing.Bytes (length r)) × (out' ≡ filled r out)
+    pub write-after-read : (out out' : List ℕ) (w : Result ℕ Refusal) → length r ≤ length out
+        → RecordWritten n cs' ks' out out' w → (w ≡ Ok (length r)) × (out' ≡ filled r out)
     write-after-read out out' w fits written =
         let k = hours_in r in
         let s = its-series.0 in

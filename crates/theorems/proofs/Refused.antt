@@ -1,14 +1,10 @@
 -- What a refused call of the boundary tells and leaves. What a call answers and what it leaves in a lent buffer are
 -- decided by the same checks, so one case distinction over them serves all calls. Assumes nothing.
-use Rattle.kit.proofs.{◌≡◌, refl, sym, ap, ◌∙◌, List, ◌↔◌, ℕ, arith}
+use Rattle.kit.proofs.{◌≡◌, refl, sym, ap, ◌∙◌, List, ◌↔◌, ℕ, arith, Option, None, Some, Result, Ok, Err}
+use Rattle.words.specs.declared.{Summary.Summary, Refusal.Refusal}
 use Rattle.words.specs.{number_of, place_of}
-use Rattle.words.specs.declared.{Refusal.Refusal, Taking.Taking, Writing.Writing, Unpacking.Unpacking, Opening.Opening}
-use Rattle.words.specs.declared.{Asking.Asking, Edges.Edges, Stopped.Stopped, Answer.Answer, Finished.Finished}
-use Rattle.words.specs.declared.{DayChange.DayChange}
-use Rattle.words.specs.declared.Refusal.TheVariants as refusal
 use Rattle.om3.specs.Document.{Check, passes, refuses, in_order, answer_by, levels, lent, answer, day, before}
-use Rattle.om3.specs.Document.{change_of}
-use Rattle.om3.specs.Document.{opening, asking_view, edges, stopped, finished, day_change}
+use Rattle.om3.specs.Document.{change_of, checked_by, opening, asking_view, edges, stopped, finished, day_change}
 use Rattle.laws.proofs.Examined.{first-cause}
 use Rattle.told.specs.declared.tables.Told.{Told}
 use Rattle.told.specs.declared.records.ToldHours.{ToldHours}
@@ -20,26 +16,12 @@ use Rattle.theorems.specs.Refused.{RefusedTold, EachRefused, NothingWritten}
 
 -- No refusal has the number 0.
 pub none-zero : (why : Refusal) → ¬ (number_of why ≡ 0)
-none-zero refusal.BadHours e = omega arith
-none-zero (refusal.BadReading h) e = omega arith
-none-zero refusal.ShortBuffer e = omega arith
-none-zero (refusal.Unsound i) e = omega arith
-none-zero refusal.BadWindow e = omega arith
-none-zero refusal.BadColumn e = omega arith
-none-zero refusal.TooDeep e = omega arith
-none-zero refusal.CutShort e = omega arith
-none-zero refusal.BadVersion e = omega arith
-none-zero refusal.BadLength e = omega arith
-none-zero refusal.BytesAfter e = omega arith
-none-zero (refusal.BadLine i) e = omega arith
-none-zero refusal.BadPlace e = omega arith
-none-zero (refusal.BadFlag h) e = omega arith
-none-zero refusal.BadStart e = omega arith
+none-zero why e = grind arith
 
 -- A call with these checks, its answers, and how the boundary tells them: a refusal by its number and its place, and
 -- what is taken with the number 0.
-module _ {A T : Type 0} (refused : Refusal → A) (taken : A) (told : A → T) (saying : T → ℕ × ℕ)
-    (refusing : (why : Refusal) → saying (told (refused why)) ≡ (number_of why, place_of why))
+module _ {A T : Type 0} (taken : Result A Refusal) (told : Result A Refusal → T) (saying : T → ℕ × ℕ)
+    (refusing : (why : Refusal) → saying (told (Err why)) ≡ (number_of why, place_of why))
     (zero : (saying (told taken)).0 ≡ 0) (checks : List Check) (r : T) where
   abbrev number : T → ℕ
   number u = (saying u).0
@@ -47,7 +29,7 @@ module _ {A T : Type 0} (refused : Refusal → A) (taken : A) (told : A → T) (
   abbrev place : T → ℕ
   place u = (saying u).1
 
-  pub tells-refusal : r ≡ told (answer_by refused (in_order checks) taken) → RefusedTold checks (number r) (place r)
+  pub tells-refusal : r ≡ told (answer_by Err (in_order checks) taken) → RefusedTold checks (number r) (place r)
   tells-refusal e = by (in_order checks) refl
     where
       by : (c : Check) → in_order checks ≡ c → RefusedTold checks (number r) (place r)
@@ -69,7 +51,8 @@ module _ {A T : Type 0} (refused : Refusal → A) (taken : A) (told : A → T) (
           }
 
   -- Of an answer that the checks decide, the number 0 is told exactly if it is taken.
-  pub zero-taken : (a : A) → r ≡ told a → a ≡ answer_by refused (in_order checks) taken → (number r ≡ 0) ↔ (a ≡ taken)
+  pub zero-taken : (a : Result A Refusal) → r ≡ told a → a ≡ answer_by Err (in_order checks) taken
+      → (number r ≡ 0) ↔ (a ≡ taken)
   zero-taken a e d = by (in_order checks) refl
     where
       by : (c : Check) → in_order checks ≡ c → (number r ≡ 0) ↔ (a ≡ taken)
@@ -79,32 +62,26 @@ module _ {A T : Type 0} (refused : Refusal → A) (taken : A) (told : A → T) (
           ap number (e ∙ ap told (rw p at d)) ∙ ap (λ (u : ℕ × ℕ). u.0) (refusing why) in
           (λ z. absurd (none-zero why (sym n ∙ z)), λ z. ap number (e ∙ ap told z) ∙ zero)
 
--- The calls that answer by Taking, Writing and Unpacking.
+-- The calls that tell nothing but that they are taken, and reading a record.
 module _ (checks : List Check) where
   module _ (r : Told) where
-    taking-refusal : r ≡ taking_told (answer_by Taking.Refused (in_order checks) Taking.Taken)
-        → RefusedTold checks r.number r.place
-    taking-refusal =
-        tells-refusal Taking.Refused Taking.Taken taking_told (λ u. (u.number, u.place)) (λ why. refl) refl checks r
+    taking-refusal : r ≡ taking_told (checked_by (in_order checks)) → RefusedTold checks r.number r.place
+    taking-refusal = tells-refusal (Ok tt) taking_told (λ u. (u.number, u.place)) (λ why. refl) refl checks r
 
-    pub taking-zero : (a : Taking) → r ≡ taking_told a → a ≡ answer_by Taking.Refused (in_order checks) Taking.Taken
-        → (r.number ≡ 0) ↔ (a ≡ Taking.Taken)
-    taking-zero =
-        zero-taken Taking.Refused Taking.Taken taking_told (λ u. (u.number, u.place)) (λ why. refl) refl checks r
+    pub taking-zero : (a : Result Unit Refusal) → r ≡ taking_told a → a ≡ checked_by (in_order checks)
+        → (r.number ≡ 0) ↔ (a ≡ Ok tt)
+    taking-zero = zero-taken (Ok tt) taking_told (λ u. (u.number, u.place)) (λ why. refl) refl checks r
 
   module _ (hours : ℕ) (r : ToldHours) where
-    pub unpacking-zero : (a : Unpacking) → r ≡ unpacking_told a
-        → a ≡ answer_by Unpacking.Refused (in_order checks) (Unpacking.Hours hours)
-        → (r.number ≡ 0) ↔ (a ≡ Unpacking.Hours hours)
-    unpacking-zero =
-        zero-taken Unpacking.Refused (Unpacking.Hours hours) unpacking_told (λ u. (u.number, u.place)) (λ why. refl)
-        refl checks r
+    pub unpacking-zero : (a : Result ℕ Refusal) → r ≡ unpacking_told a → a ≡ answer_by Err (in_order checks) (Ok hours)
+        → (r.number ≡ 0) ↔ (a ≡ Ok hours)
+    unpacking-zero = zero-taken (Ok hours) unpacking_told (λ u. (u.number, u.place)) (λ why. refl) refl checks r
 
 -- A day that is taken tells number 0, with a reading or without.
-change-zero : (earlier own : Answer) → (change_told (change_of earlier own)).number ≡ 0
-change-zero earlier Answer.NoReading = refl
-change-zero Answer.NoReading (Answer.Found own) = refl
-change-zero (Answer.Found earlier) (Answer.Found own) = refl
+change-zero : (earlier own : Option Summary) → (change_told (change_of earlier own)).number ≡ 0
+change-zero earlier None = refl
+change-zero None (Some own) = refl
+change-zero (Some earlier) (Some own) = refl
 
 pub each-refused : EachRefused
 unfolding opening asking_view edges stopped finished day_change
@@ -114,23 +91,21 @@ each-refused =
       turn-back = λ κs n coefficients codes hours r e m. taking-refusal _ r (tells-one m m.keeps.answer);
       rebuild = λ κs n counts flags start hours r e m. taking-refusal _ r (tells-one m m.keeps.answer);
       write-record = λ κs n coefficients codes bytes r e m.
-          tells-refusal Writing.Refused _ writing_told (λ u. (u.number, u.place)) (λ why. refl) refl _ r
-          (tells-one m m.keeps.answer);
+          tells-refusal _ writing_told (λ u. (u.number, u.place)) (λ why. refl) refl _ r (tells-one m m.keeps.answer);
       read-record = λ κs bytes coefficients codes r e m.
-          tells-refusal Unpacking.Refused _ unpacking_told (λ u. (u.number, u.place)) (λ why. refl) refl _ r
-          (tells-one m m.keeps.answer);
+          tells-refusal _ unpacking_told (λ u. (u.number, u.place)) (λ why. refl) refl _ r (tells-one m m.keeps.answer);
       open-record = λ κs bytes r e m.
-          tells-refusal Opening.Refused _ opening_told (λ u. (u.number, u.place)) (λ why. refl) refl _ r m;
+          tells-refusal _ opening_told (λ u. (u.number, u.place)) (λ why. refl) refl _ r m;
       ask = λ κs bytes places place r e m.
-          tells-refusal Asking.Refused _ asking_told (λ u. (u.number, u.place)) (λ why. refl) refl _ r m;
+          tells-refusal _ asking_told (λ u. (u.number, u.place)) (λ why. refl) refl _ r m;
       column-edges = λ κs n a b w k r e m.
-          tells-refusal Edges.Refused _ edges_told (λ u. (u.number, u.place)) (λ why. refl) refl _ r m;
+          tells-refusal _ edges_told (λ u. (u.number, u.place)) (λ why. refl) refl _ r m;
       stopped-column = λ κs n coefficients codes a b w k d r e m.
-          tells-refusal Stopped.Refused _ stopped_told (λ u. (u.number, u.place)) (λ why. refl) refl _ r m;
+          tells-refusal _ stopped_told (λ u. (u.number, u.place)) (λ why. refl) refl _ r m;
       finished-column = λ κs n coefficients codes a b w k r e m.
-          tells-refusal Finished.Refused _ finished_told (λ u. (u.number, u.place)) (λ why. refl) refl _ r m;
+          tells-refusal _ finished_told (λ u. (u.number, u.place)) (λ why. refl) refl _ r m;
       day-change = λ κs n coefficients codes d r e m.
-          tells-refusal DayChange.Refused _ change_told (λ u. (u.number, u.place)) (λ why. refl)
+          tells-refusal _ change_told (λ u. (u.number, u.place)) (λ why. refl)
           (let t = lent coefficients.now codes.now in
           change-zero (answer (levels n) t (before d)) (answer (levels n) t (day n d))) _ r m;
     }

@@ -2,11 +2,12 @@
 -- sagivelume/proofs/Clauses, is what the contract of a call promises. A call has lifetimes κs, its arguments, an answer
 -- r and its parameters e as it leaves them; `now` is what a lent buffer holds. Assumes nothing.
 use Rattle.kit.proofs.{◌≡◌, refl, false, ◌||◌, List, map, flatten, ℕ, ◌-◌, ◌*◌, ◌^◌, ◌<◌, ℤ, pos, neg_ℤ, ◌≤ℤ◌, SFits}
-use Rattle.kit.proofs.{w32, length, take}
+use Rattle.kit.proofs.{w32, length, take, Option}
+use Rattle.words.specs.declared.{Summary.Summary, Timestamp.Timestamp, Column.Column}
+use Rattle.words.specs.Said.{finished_as}
 use denote.Ref.{Bor}
 use Rattle.kit.specs.Calls.{third, fourth, fifth}
 use Rattle.words.specs.{day_hours, largest_reading}
-use Rattle.words.specs.declared.{Timestamp.Timestamp, Column.Column, Answer.Answer, Finished.Finished}
 use Rattle.om3.specs.Document.{total, Series, hours_from, bad_hours, short, HasTable, lent, table_short, filled}
 use Rattle.om3.specs.Document.{column_hours, day, before, change_of, days_of, added_by, span_of, look_through, TrueLog}
 use Rattle.om3.specs.Document.{true_series}
@@ -78,8 +79,8 @@ module _ (κs : _) (n : _) (readings : _) (coefficients : _) (codes : _) (m : _)
 
 -- On any table, sound or not: what finished columns answer of the hours before a day and of the day differs by a number
 -- of 32 bits.
-change-fits : (n : ℕ) (cs : List ℤ) (ks : List ℕ) (x y : Column) (earlier own : Answer) (i j : ℕ)
-    → FinishedOver n cs ks x (Finished.Answered earlier i) → FinishedOver n cs ks y (Finished.Answered own j)
+change-fits : (n : ℕ) (cs : List ℤ) (ks : List ℕ) (x y : Column) (earlier own : Option Summary) (i j : ℕ)
+    → FinishedOver n cs ks x (finished_as earlier i) → FinishedOver n cs ks y (finished_as own j)
     → SFits w32 (added_by (change_of earlier own))
 change-fits n cs ks x y earlier own i j before after =
     days.Daily.change-small earlier own (before.answers.small _ _ refl) (after.answers.small _ _ refl)

@@ -5,7 +5,8 @@
 --   Written d t from text      this is printed at once from a column on, into some buffer, and written
 --   WrittenFrom d t from texts these texts are, from that column on to beyond the last that there can be
 --   Prints pieces              what is written for these pieces, whatever the lent buffers held
-use Rattle.std.specs.Prelude.{◌≡◌, ℕ, ◌+◌, ◌/◌, ◌≤◌, ℤ, length, take}
+use Rattle.std.specs.Prelude.{◌≡◌, ℕ, ◌+◌, ◌/◌, ◌≤◌, ℤ, length, take, Result}
+use Rattle.words.specs.declared.Refusal.{Refusal}
 use mathlib.Core.List.{List, [], ◌∷◌, flatten}
 use Rattle.words.specs.Constants.{largest_hours, most_columns}
 use Rattle.om3.specs.Table.{Table, lent}
@@ -20,7 +21,7 @@ ReadAll [] p q = q ≡ p
 ReadAll (piece ∷ pieces) p q = (m : Progress) × (m ≡ read_on p piece) × ReadAll pieces m q
 
 -- The text is as much of the buffer as printing tells.
-pub record Written (d : Drawing) (t : Table) (from : ℕ) (text : List ℕ) : Type 0 where
+pub record Written (d : Result Drawing Refusal) (t : Table) (from : ℕ) (text : List ℕ) : Type 0 where
   pub before : List ℕ
   pub after : List ℕ
   pub size : ℕ
@@ -28,7 +29,7 @@ pub record Written (d : Drawing) (t : Table) (from : ℕ) (text : List ℕ) : Ty
   pub prints : PutsShort room 0 (piece d t from) before after size
   pub writes : text ≡ take size after
 
-abbrev pub WrittenFrom : Drawing → Table → ℕ → List (List ℕ) → Type 0
+abbrev pub WrittenFrom : Result Drawing Refusal → Table → ℕ → List (List ℕ) → Type 0
 WrittenFrom d t from [] = most_columns ≤ from
 WrittenFrom d t from (text ∷ texts) = Written d t from text × WrittenFrom d t (from + columns_at_once) texts
 
@@ -37,5 +38,5 @@ pub record Prints (pieces : List (List ℕ)) : Type 0 where
   pub prints : (line : List ℕ) (hours : List ℤ) → length line ≡ kept_bytes → length hours ≡ largest_hours
       → (read over : Progress) → ReadAll pieces (progress begun line hours) read → over ≡ closed read
       → (cs cs' : List ℤ) (ks ks' : List ℕ) → length cs ≡ largest_hours → length ks ≡ largest_hours / 2
-      → (d : Drawing) → Decided over.text over.hours cs ks cs' ks' d
+      → (d : Result Drawing Refusal) → Decided over.text over.hours cs ks cs' ks' d
       → (texts : List (List ℕ)) → WrittenFrom d (lent cs' ks') 0 texts → flatten texts ≡ printed (flatten pieces)

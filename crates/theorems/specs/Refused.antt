@@ -13,11 +13,11 @@ use Rattle.kit.specs.Calls.{second, third, fourth, fifth}
 use Rattle.words.specs.{number_of, place_of}
 use Rattle.words.specs.declared.Refusal.{Refusal}
 use Rattle.om3.specs.Document.{levels, Check, FirstCause, lent, check_hours, check_readings, short, table_short}
-use Rattle.om3.specs.Document.{check_room}
-use Rattle.om3.specs.Document.{examine_table, check_window, check_day, check_column, check_depth, record_size, hours_in}
-use Rattle.om3.specs.Document.{table_in, check_header, check_version, check_length, check_cut, check_after, check_place}
-use Rattle.om3.specs.Document.{check_reach, column, day, opened_nodes, finished_nodes, examine_column, answer}
-use Rattle.om3.specs.Document.{examine_before, check_flags, recorded_hours, check_start, rebuilt, check_weights}
+use Rattle.om3.specs.Document.{check_room, examine_table, check_window, check_day, check_column, check_depth}
+use Rattle.om3.specs.Document.{record_size, hours_in, table_in, check_header, check_version, check_length, check_cut}
+use Rattle.om3.specs.Document.{check_after, check_place, check_reach, column, day, opened_nodes, finished_nodes}
+use Rattle.om3.specs.Document.{examine_column, answer, examine_before, check_flags, recorded_hours, check_start}
+use Rattle.om3.specs.Document.{rebuilt, check_weights}
 use Rattle.sagivelume.proofs.Clauses as boundary
 
 -- The number is not 0 exactly if some check refuses, and number and place are those of the first that does.

@@ -3,16 +3,16 @@
 -- order. What a check asks, and of which number it is, is in om3/specs: Refusals, RecordCalls and Printed. [refusals
 -- 19, 20] Assumes nothing.
 use mathlib.Core.{Path.◌≡◌, Logic.◌↔◌}
-use Rattle.std.specs.Prelude.{List, [], ◌∷◌, ℕ, length}
-use Rattle.words.specs.declared.{Refusal.Refusal, Asking.Asking, WindowLine.WindowLine, HourLine.HourLine}
+use Rattle.std.specs.Prelude.{List, [], ◌∷◌, ℕ, length, Err}
+use Rattle.words.specs.Said.{window_as}
+use Rattle.words.specs.declared.{Refusal.Refusal, HourLine.HourLine}
 use Rattle.om3.specs.Document.{P, FirstCause, check_hours, check_window, check_column, hours_in, check_header}
-use Rattle.om3.specs.Document.{check_version}
-use Rattle.om3.specs.Document.{check_length, check_cut, check_after, check_place, check_lines, check_numbers, asking}
-use Rattle.om3.specs.Document.{refusal_line, printed_of}
+use Rattle.om3.specs.Document.{check_version, check_length, check_cut, check_after, check_place, check_lines}
+use Rattle.om3.specs.Document.{check_numbers, asking, refusal_line, printed_of}
 
 pub record UnlinkedCause : Type 0 where
   -- the checks of opening, 13
-  pub ask-record : (r : List ℕ) (p : ℕ) (why : Refusal) → (asking r p ≡ Asking.Refused why)
+  pub ask-record : (r : List ℕ) (p : ℕ) (why : Refusal) → (asking r p ≡ Err why)
       ↔ FirstCause
       (check_header r
       ∷ check_version r
@@ -24,7 +24,7 @@ pub record UnlinkedCause : Type 0 where
       ∷ []) why
   -- 12, 1, 2, 5, 6, with a good line 1 and the further lines as they are read
   pub print : (a b w : ℕ) (lines : List HourLine) (why : Refusal)
-      → (printed_of (WindowLine.Window a b w) lines ≡ refusal_line why)
+      → (printed_of (window_as a b w) lines ≡ refusal_line why)
       ↔ FirstCause
       (check_lines 2 lines
       ∷ check_hours (length lines)

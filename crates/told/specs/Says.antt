@@ -6,12 +6,12 @@
 --   told_says, bytes_say, ..   what a struct of each type says; `values_in`, of the values of a column's answer
 --   EachSays                 each says what document 01 says of its answer
 use mathlib.Core.{Path.◌≡◌, Bool.cond}
-use Rattle.std.specs.Prelude.{List, [], ◌∷◌, ◌++◌, ℕ, eqb, ℤ, pos}
+use Rattle.std.specs.Prelude.{List, [], ◌∷◌, ◌++◌, ℕ, eqb, ℤ, pos, Option, Result}
 use Rattle.words.specs.{said_of_taking, said_of_writing, said_of_unpacking, said_of_opening, said_of_asking}
 use Rattle.words.specs.{said_of_edges, said_of_stopped, said_of_finished, said_of_day_change, values_of}
 use Rattle.words.specs.Said.{Said}
-use Rattle.words.specs.declared.{Taking.Taking, Writing.Writing, Unpacking.Unpacking, Opening.Opening, Asking.Asking}
-use Rattle.words.specs.declared.{Edges.Edges, Stopped.Stopped, Answer.Answer, Finished.Finished, DayChange.DayChange}
+use Rattle.words.specs.declared.{Refusal.Refusal, Opening.Opening, Column.Column, Stopped.Stopped, Summary.Summary}
+use Rattle.words.specs.declared.{Finished.Finished}
 use Rattle.told.specs.declared.{tables.Told.Told, records.ToldBytes.ToldBytes, records.ToldHours.ToldHours}
 use Rattle.told.specs.declared.{records.ToldRecord.ToldRecord, records.ToldCoefficient.ToldCoefficient}
 use Rattle.told.specs.declared.{columns.ToldColumn.ToldColumn, columns.ToldRanges.ToldRanges}
@@ -61,13 +61,13 @@ abbrev pub change_says : ToldChange → Said
 change_says t = said t.number t.place (cond (eqb t.found 0) [] (t.grams ∷ []))
 
 pub record EachSays : Type 0 where
-  pub taking : (t : Taking) → told_says (taking_told t) ≡ said_of_taking t
-  pub writing : (w : Writing) → bytes_say (writing_told w) ≡ said_of_writing w
-  pub unpacking : (u : Unpacking) → hours_say (unpacking_told u) ≡ said_of_unpacking u
-  pub opening : (o : Opening) → record_says (opening_told o) ≡ said_of_opening o
-  pub asking : (a : Asking) → coefficient_says (asking_told a) ≡ said_of_asking a
-  pub edges : (e : Edges) → column_says (edges_told e) ≡ said_of_edges e
-  pub stopped : (s : Stopped) → ranges_say (stopped_told s) ≡ said_of_stopped s
-  pub answer : (a : Answer) → values_in (answer_told a) ≡ values_of a
-  pub finished : (f : Finished) → finished_says (finished_told f) ≡ said_of_finished f
-  pub change : (c : DayChange) → change_says (change_told c) ≡ said_of_day_change c
+  pub taking : (t : Result Unit Refusal) → told_says (taking_told t) ≡ said_of_taking t
+  pub writing : (w : Result ℕ Refusal) → bytes_say (writing_told w) ≡ said_of_writing w
+  pub unpacking : (u : Result ℕ Refusal) → hours_say (unpacking_told u) ≡ said_of_unpacking u
+  pub opening : (o : Result Opening Refusal) → record_says (opening_told o) ≡ said_of_opening o
+  pub asking : (a : Result ℤ Refusal) → coefficient_says (asking_told a) ≡ said_of_asking a
+  pub edges : (e : Result Column Refusal) → column_says (edges_told e) ≡ said_of_edges e
+  pub stopped : (s : Result Stopped Refusal) → ranges_say (stopped_told s) ≡ said_of_stopped s
+  pub answer : (a : Option Summary) → values_in (answer_told a) ≡ values_of a
+  pub finished : (f : Result Finished Refusal) → finished_says (finished_told f) ≡ said_of_finished f
+  pub change : (c : Result (Option ℤ) Refusal) → change_says (change_told c) ≡ said_of_day_change c

@@ -2,7 +2,8 @@
 ghost use Rattle.std.specs.Prelude.{◌≡◌};
 ghost use Rattle.told.specs.Columns.{edges_told, stopped_told, answer_told, finished_told, change_told, answer_in};
 
-use words::{Answer, DayChange, Edges, Finished, Reading, Stopped, Summary, Timestamp};
+use crate::tables::Told;
+use words::{Column, Finished, Reading, Refusal, Stopped, Summary, Timestamp};
 
 // The hours of a column: from `from` up to, not including, `upto`; 0 and 0 on a refusal.
 #[repr(C)]
@@ -61,140 +62,125 @@ pub struct ToldChange {
     pub grams: i32,
 }
 
-pub fn of_edges(e: Edges) -> ToldColumn
-    ensures { result ≡ edges_told e }
-{
-    match e {
-        Edges::Hours(x) => ToldColumn {
-            number: crate::TAKEN,
-            place: crate::NO_PLACE,
-            from: x.from.0,
-            upto: x.upto.0,
-        },
-        Edges::Refused(why) => ToldColumn {
-            number: words::number_of(why),
-            place: words::place_of(why),
-            from: 0,
-            upto: 0,
-        },
+impl From<Result<Column, Refusal>> for ToldColumn {
+    ghost from_gives = { λ e t. t ≡ edges_told e };
+
+    fn from(answer: Result<Column, Refusal>) -> ToldColumn {
+        let Told { number, place } = Told::of(&answer);
+        let (from, upto) = answer.map_or((0, 0), |column| (column.from.0, column.upto.0));
+        ToldColumn {
+            number,
+            place,
+            from,
+            upto,
+        }
     }
 }
 
-pub fn of_stopped(s: Stopped) -> ToldRanges
-    ensures { result ≡ stopped_told s }
-{
-    match s {
-        Stopped::Ranges {
-            outer,
-            inner,
+impl From<Result<Stopped, Refusal>> for ToldRanges {
+    ghost from_gives = { λ s t. t ≡ stopped_told s };
+
+    fn from(answer: Result<Stopped, Refusal>) -> ToldRanges {
+        let Told { number, place } = Told::of(&answer);
+        match answer {
+            Ok(done) => ToldRanges {
+                number,
+                place,
+                outer_low: words::low_of(done.outer),
+                outer_high: words::high_of(done.outer),
+                inner_low: words::low_of(done.inner),
+                inner_high: words::high_of(done.inner),
+                count: done.count,
+            },
+            Err(_) => ToldRanges {
+                number,
+                place,
+                outer_low: 0,
+                outer_high: 0,
+                inner_low: 0,
+                inner_high: 0,
+                count: 0,
+            },
+        }
+    }
+}
+
+impl From<Option<Summary>> for ToldAnswer {
+    ghost from_gives = { λ a t. t ≡ answer_told a };
+
+    fn from(answer: Option<Summary>) -> ToldAnswer {
+        match answer {
+            None => ToldAnswer {
+                found: 0,
+                first_hour: 0,
+                last_hour: 0,
+                first: 0,
+                last: 0,
+                low: 0,
+                high: 0,
+            },
+            Some(s) => ToldAnswer {
+                found: 1,
+                first_hour: s.first.hour.0,
+                last_hour: s.last.hour.0,
+                first: s.first.grams,
+                last: s.last.grams,
+                low: s.low,
+                high: s.high,
+            },
+        }
+    }
+}
+
+impl From<Result<Finished, Refusal>> for ToldFinished {
+    ghost from_gives = { λ f t. t ≡ finished_told f };
+
+    fn from(finished: Result<Finished, Refusal>) -> ToldFinished {
+        let Told { number, place } = Told::of(&finished);
+        let (answer, count) = finished.map_or((None, 0), |done| (done.answer, done.count));
+        ToldFinished {
+            number,
+            place,
+            answer: answer.into(),
             count,
-        } => ToldRanges {
-            number: crate::TAKEN,
-            place: crate::NO_PLACE,
-            outer_low: words::low_of(outer),
-            outer_high: words::high_of(outer),
-            inner_low: words::low_of(inner),
-            inner_high: words::high_of(inner),
-            count,
-        },
-        Stopped::Refused(why) => ToldRanges {
-            number: words::number_of(why),
-            place: words::place_of(why),
-            outer_low: 0,
-            outer_high: 0,
-            inner_low: 0,
-            inner_high: 0,
-            count: 0,
-        },
+        }
     }
 }
 
-pub fn of_answer(a: Answer) -> ToldAnswer
-    ensures { result ≡ answer_told a }
-{
-    match a {
-        Answer::NoReading => ToldAnswer {
-            found: 0,
-            first_hour: 0,
-            last_hour: 0,
-            first: 0,
-            last: 0,
-            low: 0,
-            high: 0,
-        },
-        Answer::Found(s) => ToldAnswer {
-            found: 1,
-            first_hour: s.first.hour.0,
-            last_hour: s.last.hour.0,
-            first: s.first.grams,
-            last: s.last.grams,
-            low: s.low,
-            high: s.high,
-        },
-    }
-}
+impl From<Result<Option<i32>, Refusal>> for ToldChange {
+    ghost from_gives = { λ c t. t ≡ change_told c };
 
-pub fn of_finished(f: Finished) -> ToldFinished
-    ensures { result ≡ finished_told f }
-{
-    match f {
-        Finished::Answered { answer, count } => ToldFinished {
-            number: crate::TAKEN,
-            place: crate::NO_PLACE,
-            answer: of_answer(answer),
-            count,
-        },
-        Finished::Refused(why) => ToldFinished {
-            number: words::number_of(why),
-            place: words::place_of(why),
-            answer: of_answer(Answer::NoReading),
-            count: 0,
-        },
-    }
-}
-
-pub fn of_change(c: DayChange) -> ToldChange
-    ensures { result ≡ change_told c }
-{
-    match c {
-        DayChange::NoReading => ToldChange {
-            number: crate::TAKEN,
-            place: crate::NO_PLACE,
-            found: 0,
-            grams: 0,
-        },
-        DayChange::Grams(grams) => ToldChange {
-            number: crate::TAKEN,
-            place: crate::NO_PLACE,
-            found: 1,
+    fn from(answer: Result<Option<i32>, Refusal>) -> ToldChange {
+        let Told { number, place } = Told::of(&answer);
+        let (found, grams) = answer.unwrap_or(None).map_or((0, 0), |grams| (1, grams));
+        ToldChange {
+            number,
+            place,
+            found,
             grams,
-        },
-        DayChange::Refused(why) => ToldChange {
-            number: words::number_of(why),
-            place: words::place_of(why),
-            found: 0,
-            grams: 0,
-        },
+        }
     }
 }
 
 // An answer handed in by a caller.
-pub fn answer_in(t: ToldAnswer) -> Answer
-    ensures { result ≡ answer_in t }
-{
-    if t.found == 0 {
-        return Answer::NoReading;
+impl From<ToldAnswer> for Option<Summary> {
+    ghost from_gives = { λ t a. a ≡ answer_in t };
+
+    fn from(t: ToldAnswer) -> Option<Summary> {
+        if t.found == 0 {
+            return None;
+        }
+        Some(Summary {
+            first: Reading {
+                hour: Timestamp(t.first_hour),
+                grams: t.first,
+            },
+            last: Reading {
+                hour: Timestamp(t.last_hour),
+                grams: t.last,
+            },
+            low: t.low,
+            high: t.high,
+        })
     }
-    Answer::Found(Summary {
-        first: Reading {
-            hour: Timestamp(t.first_hour),
-            grams: t.first,
-        },
-        last: Reading {
-            hour: Timestamp(t.last_hour),
-            grams: t.last,
-        },
-        low: t.low,
-        high: t.high,
-    })
 }

@@ -2,7 +2,8 @@
 ghost use Rattle.std.specs.Prelude.{◌≡◌};
 ghost use Rattle.told.specs.Records.{writing_told, unpacking_told, opening_told, asking_told};
 
-use words::{Asking, Opening, Unpacking, Writing};
+use crate::tables::Told;
+use words::{Opening, Refusal};
 
 // What writing a record answers: how many bytes it has, 0 on a refusal.
 #[repr(C)]
@@ -13,7 +14,8 @@ pub struct ToldBytes {
     pub bytes: usize,
 }
 
-// What reading a record answers: the hours of its series, 0 on a refusal.
+// What reading a record answers: the hours of its series, 0 on a refusal. C has them under a name of their own, so this
+// is not ToldBytes.
 #[repr(C)]
 #[derive(Clone, Copy)]
 pub struct ToldHours {
@@ -41,72 +43,56 @@ pub struct ToldCoefficient {
     pub coefficient: i32,
 }
 
-pub fn of_writing(w: Writing) -> ToldBytes
-    ensures { result ≡ writing_told w }
-{
-    match w {
-        Writing::Bytes(bytes) => ToldBytes {
-            number: crate::TAKEN,
-            place: crate::NO_PLACE,
-            bytes,
-        },
-        Writing::Refused(why) => ToldBytes {
-            number: words::number_of(why),
-            place: words::place_of(why),
-            bytes: 0,
-        },
+impl From<Result<usize, Refusal>> for ToldBytes {
+    ghost from_gives = { λ w t. t ≡ writing_told w };
+
+    fn from(answer: Result<usize, Refusal>) -> ToldBytes {
+        let Told { number, place } = Told::of(&answer);
+        ToldBytes {
+            number,
+            place,
+            bytes: answer.unwrap_or(0),
+        }
     }
 }
 
-pub fn of_unpacking(u: Unpacking) -> ToldHours
-    ensures { result ≡ unpacking_told u }
-{
-    match u {
-        Unpacking::Hours(hours) => ToldHours {
-            number: crate::TAKEN,
-            place: crate::NO_PLACE,
-            hours,
-        },
-        Unpacking::Refused(why) => ToldHours {
-            number: words::number_of(why),
-            place: words::place_of(why),
-            hours: 0,
-        },
+impl From<Result<usize, Refusal>> for ToldHours {
+    ghost from_gives = { λ u t. t ≡ unpacking_told u };
+
+    fn from(answer: Result<usize, Refusal>) -> ToldHours {
+        let Told { number, place } = Told::of(&answer);
+        ToldHours {
+            number,
+            place,
+            hours: answer.unwrap_or(0),
+        }
     }
 }
 
-pub fn of_opening(o: Opening) -> ToldRecord
-    ensures { result ≡ opening_told o }
-{
-    match o {
-        Opening::Record { hours, places } => ToldRecord {
-            number: crate::TAKEN,
-            place: crate::NO_PLACE,
+impl From<Result<Opening, Refusal>> for ToldRecord {
+    ghost from_gives = { λ o t. t ≡ opening_told o };
+
+    fn from(answer: Result<Opening, Refusal>) -> ToldRecord {
+        let Told { number, place } = Told::of(&answer);
+        let (hours, places) = answer.map_or((0, 0), |opened| (opened.hours, opened.places));
+        ToldRecord {
+            number,
+            place,
             hours,
             places,
-        },
-        Opening::Refused(why) => ToldRecord {
-            number: words::number_of(why),
-            place: words::place_of(why),
-            hours: 0,
-            places: 0,
-        },
+        }
     }
 }
 
-pub fn of_asking(a: Asking) -> ToldCoefficient
-    ensures { result ≡ asking_told a }
-{
-    match a {
-        Asking::Coefficient(coefficient) => ToldCoefficient {
-            number: crate::TAKEN,
-            place: crate::NO_PLACE,
-            coefficient,
-        },
-        Asking::Refused(why) => ToldCoefficient {
-            number: words::number_of(why),
-            place: words::place_of(why),
-            coefficient: 0,
-        },
+impl From<Result<i32, Refusal>> for ToldCoefficient {
+    ghost from_gives = { λ a t. t ≡ asking_told a };
+
+    fn from(answer: Result<i32, Refusal>) -> ToldCoefficient {
+        let Told { number, place } = Told::of(&answer);
+        ToldCoefficient {
+            number,
+            place,
+            coefficient: answer.unwrap_or(0),
+        }
     }
 }

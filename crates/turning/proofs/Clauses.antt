@@ -1,7 +1,7 @@
 -- What turning back asks, which is nothing, and what it promises, of its contract as the kit reads it. Assumes
 -- nothing.
-use Rattle.kit.proofs.{refl, sym, ◌∙◌, List, ℤ}
-use Rattle.words.specs.declared.Taking.{Taking}
+use Rattle.kit.proofs.{refl, sym, ◌∙◌, List, ℤ, Result}
+use Rattle.words.specs.declared.Refusal.{Refusal}
 use Rattle.kit.specs.Calls.{Call, fourth}
 use Rattle.turning.specs.Turning.{TurnedBack}
 use Rattle.turning.specs.contracts.turn_back
@@ -11,7 +11,7 @@ abbrev pub TurnBackCall : Type 2
 TurnBackCall =
     Call turn_back.ended (λ M 𝓤 𝓛. turn_back.clauses 𝓛) turn_back_code.Symbol.code turn_back.Key.name
     (λ κs n coefficients codes hours r e. TurnedBack n coefficients.now codes.now hours.now (fourth e).now r)
-    {B = Taking × List ℤ} (λ κs r e. (r, (fourth e).now))
+    {B = Result Unit Refusal × List ℤ} (λ κs r e. (r, (fourth e).now))
 
 pub turn-back-call : TurnBackCall
 turn-back-call =

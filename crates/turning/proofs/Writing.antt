@@ -1,5 +1,7 @@
 -- What writing the hours below a node promises, at a pair and at a node of two halves. Assumes nothing.
 use Rattle.kit.proofs.{◌≡◌, sym, ap, ◌∙◌, true, List, ℕ, suc, ◌+◌, ◌-◌, ◌*◌, ◌/◌, ◌≤◌, ◌<◌, arith, ℤ, pos, get_or, set}
+use Rattle.kit.proofs.{None, Option}
+use Rattle.node.specs.Steps.{halves_as}
 use Rattle.signed.proofs.{clash}
 use Rattle.words.specs.{low_of}
 use Rattle.words.specs.declared.Range.{Range}
@@ -14,7 +16,7 @@ use Rattle.turning.specs.Turning.{with_hours, Written, PairWritten}
 use Rattle.examining.proofs.Answers.{Stepped, stepped, not-stepped}
 use Rattle.examining.proofs.Examining.{one-level, first-index, code-index}
 
-module _ (cs : List ℤ) (ks : List ℕ) (i f w : ℕ) (range : Range) (out : List ℤ) where
+module _ (cs : List ℤ) (ks : List ℕ) (i f w : ℕ) (range : Option Range) (out : List ℤ) where
   abbrev T : Table
   T = lent cs ks
 
@@ -73,15 +75,15 @@ module _ (cs : List ℤ) (ks : List ℕ) (i f w : ℕ) (range : Range) (out : Li
             below_right = and_right (every (sound_node l n T) L) _ q;
           }
 
-    pub node-not-written : {x : Halves} → x ≡ Halves.Unsound → x ≡ halves_of range d e
+    pub node-not-written : {x : Option Halves} → x ≡ None → x ≡ halves_of range d e
         → Written cs ks i f w range out out
     node-not-written is s =
         record {
           below = λ l n v at g ok. clash (sym (not-stepped _ _ _ (sym s ∙ is)) ∙ (all_sound l n v at g ok).node);
         }
 
-    module _ {x : Halves} (a b : Range) (is : x ≡ Halves.Sound a b) (s : x ≡ halves_of range d e) (out₁ out₂ : List ℤ)
-        (L : Written cs ks (2 * i) f (w / 2) a out out₁)
+    module _ {x : Option Halves} (a b : Option Range) (is : x ≡ halves_as a b) (s : x ≡ halves_of range d e)
+        (out₁ out₂ : List ℤ) (L : Written cs ks (2 * i) f (w / 2) a out out₁)
         (R : Written cs ks (2 * i + 1) (f + w / 2) (w / 2) b out₁ out₂) where
       abbrev H : Stepped (sound_details range d e) (left_half range d e) (right_half range d e) a b
       H = stepped (sound_details range d e) (left_half range d e) (right_half range d e) (sym s ∙ is)
@@ -103,7 +105,7 @@ module _ (cs : List ℤ) (ks : List ℕ) (i f w : ℕ) (range : Range) (out : Li
       node-written = record { below = halves-written }
 
     -- The halves are pairs.
-    pub pairs-written : {x : Halves} (a b : Range) → x ≡ Halves.Sound a b → x ≡ halves_of range d e
+    pub pairs-written : {x : Option Halves} (a b : Option Range) → x ≡ halves_as a b → x ≡ halves_of range d e
         → (out₁ out₂ : List ℤ) → PairWritten ks f a out out₁ → PairWritten ks (f + w / 2) b out₁ out₂ → w < 8
         → Written cs ks i f w range out out₂
     pairs-written a b is s out₁ out₂ L R eight =
@@ -111,9 +113,9 @@ module _ (cs : List ℤ) (ks : List ℕ) (i f w : ℕ) (range : Range) (out : Li
         (R.pair cs (2 * i + 1) (w / 2) (omega arith) (omega arith))
 
 -- The two answers of a pair's step.
-module _ (ks : List ℕ) (f : ℕ) (range : Range) (out : List ℤ) {x : Halves}
+module _ (ks : List ℕ) (f : ℕ) (range : Option Range) (out : List ℤ) {x : Option Halves}
     (s : x ≡ pair_of range (get_or ks (f / 2) 0)) where
-  pub pair-not-written : x ≡ Halves.Unsound → PairWritten ks f range out out
+  pub pair-not-written : x ≡ None → PairWritten ks f range out out
   pair-not-written is =
       let u = not-stepped _ _ _ (sym s ∙ is) in
       record {
@@ -121,7 +123,7 @@ module _ (ks : List ℕ) (f : ℕ) (range : Range) (out : List ℤ) {x : Halves}
             record { below = λ l n v at g ok. clash (sym u ∙ code-sound cs ks i f w range out two four l n v at g ok) };
       }
 
-  pub pair-written : (a b : Range) → x ≡ Halves.Sound a b → {out₁ out₂ : List ℤ} → out₁ ≡ set out f (low_of a)
+  pub pair-written : (a b : Option Range) → x ≡ halves_as a b → {out₁ out₂ : List ℤ} → out₁ ≡ set out f (low_of a)
       → out₂ ≡ set out₁ (f + 1) (low_of b) → PairWritten ks f range out out₂
   pair-written a b is p q =
       let c = get_or ks (f / 2) 0 in

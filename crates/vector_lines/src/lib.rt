@@ -14,47 +14,23 @@ mod output;
 
 ghost use Rattle.std.specs.Prelude.{◌≡◌, length};
 
-pub use input::{grams_of, lend_bytes, lend_counts, lend_grams, number_at, read_input};
-pub use output::{print_bytes, print_end, print_grams, print_head, print_more, print_more_grams};
+pub use input::{Number, Numbers, answer_all};
+pub use output::Content;
 
 // How long the input may be.
 const TEXT: usize = 2_097_152;
 
 // How long a buffer of grams or of counts may be, one of codes, and a record, or flags: more than the largest table and
 // the longest log need.
-const GRAMS: usize = 16_500;
+pub const GRAMS: usize = 16_500;
 
-const CODES: usize = 8_300;
+pub const CODES: usize = 8_300;
 
-const RECORD: usize = 57_500;
+pub const RECORD: usize = 57_500;
 
-// Room for each of them. Lending a part of it asks for its length, which is all that the contracts say.
-pub fn no_text() -> [u8; TEXT]
-    ensures { TEXT ≡ length result }
+// Room for so many numbers. Lending a part of it asks for its length, which is all that the contract says.
+pub fn room<T: Copy + Default, const N: usize>() -> [T; N]
+    ensures { N ≡ length result }
 {
-    [0; TEXT]
-}
-
-pub fn no_grams() -> [i32; GRAMS]
-    ensures { GRAMS ≡ length result }
-{
-    [0; GRAMS]
-}
-
-pub fn no_counts() -> [u16; GRAMS]
-    ensures { GRAMS ≡ length result }
-{
-    [0; GRAMS]
-}
-
-pub fn no_codes() -> [u8; CODES]
-    ensures { CODES ≡ length result }
-{
-    [0; CODES]
-}
-
-pub fn no_record() -> [u8; RECORD]
-    ensures { RECORD ≡ length result }
-{
-    [0; RECORD]
+    [T::default(); N]
 }

@@ -8,155 +8,71 @@
 //
 // Making, turning back and rebuilding tell nothing but the refusal. A level has none: it tells the first place of the
 // stretch and its length. Nor have sizes: the places of a table are told, and the bytes of its record.
+//
+// Each call makes its own buffers, a room and what is lent of it at a time: one function of all calls would be no
+// plainer.
+use told::tables::Told;
+use vector_lines::{CODES, Content, GRAMS, Numbers, RECORD, room};
+use words::Stretch;
 
 // Makes a table and writes the answer.
-fn show_make(
-    rt: &impl Print,
-    n: usize,
-    readings: &[i32],
-    coefficients: &mut [i32],
-    codes: &mut [u8],
-) {
-    let told = sagivelume::sagivelume_make(n, readings, coefficients, codes);
-    vector_lines::print_head(rt, told.number, told.place);
-    vector_lines::print_grams(rt, coefficients);
-    vector_lines::print_bytes(rt, codes);
-    vector_lines::print_end(rt);
+pub fn make(rt: &impl Print, input: &mut Numbers) {
+    let n = input.number();
+    let mut readings = room::<i32, GRAMS>();
+    let readings = input.lend(&mut readings);
+    let mut coefficients = room::<i32, GRAMS>();
+    let coefficients = input.lend(&mut coefficients);
+    let mut codes = room::<u8, CODES>();
+    let codes = input.lend(&mut codes);
+    let Told { number, place } = sagivelume::sagivelume_make(n, readings, coefficients, codes);
+    let _ = println!(rt;
+        "{number} {place}{}{}",
+        Content(coefficients),
+        Content(codes)
+    );
 }
 
 // Turns a table back and writes the answer.
-fn show_turn_back(
-    rt: &impl Print,
-    n: usize,
-    coefficients: &[i32],
-    codes: &[u8],
-    hours: &mut [i32],
-) {
-    let told = sagivelume::sagivelume_turn_back(n, coefficients, codes, hours);
-    vector_lines::print_head(rt, told.number, told.place);
-    vector_lines::print_grams(rt, hours);
-    vector_lines::print_end(rt);
+pub fn turn_back(rt: &impl Print, input: &mut Numbers) {
+    let n = input.number();
+    let mut coefficients = room::<i32, GRAMS>();
+    let coefficients = input.lend(&mut coefficients);
+    let mut codes = room::<u8, CODES>();
+    let codes = input.lend(&mut codes);
+    let mut hours = room::<i32, GRAMS>();
+    let hours = input.lend(&mut hours);
+    let Told { number, place } = sagivelume::sagivelume_turn_back(n, coefficients, codes, hours);
+    let _ = println!(rt; "{number} {place}{}", Content(hours));
 }
 
 // Finds a level and writes the answer.
-fn show_level(rt: &impl Print, n: usize, j: usize, coefficients: &[i32]) {
-    let stretch = sagivelume::sagivelume_level(n, j, coefficients);
-    vector_lines::print_head(rt, stretch.start, stretch.length);
-    vector_lines::print_end(rt);
+pub fn level(rt: &impl Print, input: &mut Numbers) {
+    let n = input.number();
+    let j = input.number();
+    let mut coefficients = room::<i32, GRAMS>();
+    let coefficients = input.lend(&mut coefficients);
+    let Stretch { start, length } = sagivelume::sagivelume_level(n, j, coefficients);
+    let _ = println!(rt; "{start} {length}");
 }
 
 // Writes how large a table and its record are.
-fn show_sizes(rt: &impl Print, n: usize) {
-    vector_lines::print_head(
-        rt,
-        sagivelume::sagivelume_places(n),
-        sagivelume::sagivelume_record_bytes(n),
-    );
-    vector_lines::print_end(rt);
+pub fn sizes(rt: &impl Print, input: &mut Numbers) {
+    let n = input.number();
+    let places = sagivelume::sagivelume_places(n);
+    let bytes = sagivelume::sagivelume_record_bytes(n);
+    let _ = println!(rt; "{places} {bytes}");
 }
 
 // Rebuilds the series of an old log and writes the answer.
-fn show_rebuild(
-    rt: &impl Print,
-    n: usize,
-    counts: &[u16],
-    flags: &[u8],
-    start: i32,
-    hours: &mut [i32],
-) {
-    let told = sagivelume::sagivelume_rebuild(n, counts, flags, start, hours);
-    vector_lines::print_head(rt, told.number, told.place);
-    vector_lines::print_grams(rt, hours);
-    vector_lines::print_end(rt);
-}
-
-// A call of making, whose n begins at `at`. Tells where the next call begins.
-fn answer_make(rt: &impl Print, text: &[u8], at: usize) -> usize {
-    let hours = vector_lines::number_at(text, at);
-    let n = hours.size as usize;
-    let mut readings = vector_lines::no_grams();
-    let first = vector_lines::lend_grams(text, hours.next, &mut readings);
-    let r = first.length;
-    let mut coefficients = vector_lines::no_grams();
-    let second = vector_lines::lend_grams(text, first.next, &mut coefficients);
-    let c = second.length;
-    let mut codes = vector_lines::no_codes();
-    let third = vector_lines::lend_bytes(text, second.next, &mut codes);
-    let k = third.length;
-    show_make(
-        rt,
-        n,
-        &readings[..r],
-        &mut coefficients[..c],
-        &mut codes[..k],
-    );
-    third.next
-}
-
-// A call of turning back, whose n begins at `at`. Tells where the next call begins.
-fn answer_turn_back(rt: &impl Print, text: &[u8], at: usize) -> usize {
-    let series = vector_lines::number_at(text, at);
-    let n = series.size as usize;
-    let mut coefficients = vector_lines::no_grams();
-    let first = vector_lines::lend_grams(text, series.next, &mut coefficients);
-    let c = first.length;
-    let mut codes = vector_lines::no_codes();
-    let second = vector_lines::lend_bytes(text, first.next, &mut codes);
-    let k = second.length;
-    let mut hours = vector_lines::no_grams();
-    let third = vector_lines::lend_grams(text, second.next, &mut hours);
-    let h = third.length;
-    show_turn_back(rt, n, &coefficients[..c], &codes[..k], &mut hours[..h]);
-    third.next
-}
-
-// A call of a level, whose n begins at `at`. Tells where the next call begins.
-fn answer_level(rt: &impl Print, text: &[u8], at: usize) -> usize {
-    let hours = vector_lines::number_at(text, at);
-    let n = hours.size as usize;
-    let level = vector_lines::number_at(text, hours.next);
-    let j = level.size as usize;
-    let mut coefficients = vector_lines::no_grams();
-    let only = vector_lines::lend_grams(text, level.next, &mut coefficients);
-    let c = only.length;
-    show_level(rt, n, j, &coefficients[..c]);
-    only.next
-}
-
-// A call of sizes, whose n begins at `at`. Tells where the next call begins.
-fn answer_sizes(rt: &impl Print, text: &[u8], at: usize) -> usize {
-    let hours = vector_lines::number_at(text, at);
-    show_sizes(rt, hours.size as usize);
-    hours.next
-}
-
-// A call of rebuilding, whose n begins at `at`. Tells where the next call begins.
-fn answer_rebuild(rt: &impl Print, text: &[u8], at: usize) -> usize {
-    let length = vector_lines::number_at(text, at);
-    let begin = vector_lines::number_at(text, length.next);
-    let n = length.size as usize;
-    let start = vector_lines::grams_of(begin);
-    let mut counts = vector_lines::no_counts();
-    let first = vector_lines::lend_counts(text, begin.next, &mut counts);
-    let c = first.length;
-    let mut flags = vector_lines::no_record();
-    let second = vector_lines::lend_bytes(text, first.next, &mut flags);
-    let f = second.length;
-    let mut hours = vector_lines::no_grams();
-    let third = vector_lines::lend_grams(text, second.next, &mut hours);
-    let h = third.length;
-    show_rebuild(rt, n, &counts[..c], &flags[..f], start, &mut hours[..h]);
-    third.next
-}
-
-// Answers a call of this kind, whose numbers begin at `at`. A number that is no kind is passed over.
-pub fn answer(rt: &impl Print, text: &[u8], kind: u64, at: usize) -> usize {
-    match kind {
-        1 => answer_make(rt, text, at),
-        2 => answer_turn_back(rt, text, at),
-        3 => answer_level(rt, text, at),
-        4 => answer_sizes(rt, text, at),
-        5 => answer_rebuild(rt, text, at),
-        _ => at,
-    }
+pub fn rebuild(rt: &impl Print, input: &mut Numbers) {
+    let n = input.number();
+    let start = input.number();
+    let mut counts = room::<u16, GRAMS>();
+    let counts = input.lend(&mut counts);
+    let mut flags = room::<u8, RECORD>();
+    let flags = input.lend(&mut flags);
+    let mut hours = room::<i32, GRAMS>();
+    let hours = input.lend(&mut hours);
+    let Told { number, place } = sagivelume::sagivelume_rebuild(n, counts, flags, start, hours);
+    let _ = println!(rt; "{number} {place}{}", Content(hours));
 }

@@ -1,12 +1,13 @@
 -- The visit from the root values: node 0 is examined first, and a visit from node 1 is over the whole table. Assumes
 -- nothing.
-use Rattle.kit.proofs.{◌≡◌, refl, ◌∙◌, List, ℕ, ◌-◌, arith, ℤ, pos, get_or}
+use Rattle.kit.proofs.{◌≡◌, refl, ◌∙◌, List, ℕ, ◌-◌, arith, ℤ, pos, get_or, Option, Err, None, Result, Some}
+use Rattle.words.specs.declared.NodeId.{NodeId}
+use Rattle.sight.specs.declared.Seen.{Seen}
 use Rattle.words.specs.declared.{Column.Column, Range.Range}
 use Rattle.om3.specs.Document.{levels, P, root, Table, lent, root_range, in_order, sound_root_values, examine, outer}
 use Rattle.om3.specs.Document.{inner_nodes}
 use Rattle.laws.proofs.{Levels.levels-most, BelowOpened.visited-root}
 use Rattle.node.proofs.Located.{root-located}
-use Rattle.node.specs.declared.Root.{Root}
 use Rattle.node.specs.Steps.{root_of}
 use Rattle.examining.proofs.Answers.{Rooted, rooted, not-rooted}
 use Rattle.examining.proofs.AtRoot.{root-readings, root-reached}
@@ -14,7 +15,6 @@ use Rattle.stepping.specs.Nodes.{LentTo, At, Below}
 use Rattle.stepping.specs.declared.Reached.{Reached}
 use Rattle.sight.{specs.Seen.seen_of, specs.Seen.table_seen, proofs.SeenTogether.seen_same}
 use Rattle.visiting.specs.Visiting.{VisitedFrom, TableVisited}
-use Rattle.visiting.specs.declared.Visited.{Visited}
 use Rattle.visiting.proofs.Visiting.{not_through}
 
 module _ (n : ℕ) (cs : List ℤ) (ks : List ℕ) (x : Column) (stop : ℕ) where
@@ -30,7 +30,7 @@ module _ (n : ℕ) (cs : List ℤ) (ks : List ℕ) (x : Column) (stop : ℕ) whe
   abbrev b : ℤ
   b = get_or cs 1 (pos 0)
 
-  pub root-unsound : root_of a b ≡ Root.Unsound → TableVisited n cs ks x stop (Visited.Unsound (record { 0 = 0 }))
+  pub root-unsound : root_of a b ≡ None → TableVisited n cs ks x stop (Err (record { 0 = 0 }))
   unfolding examine in_order
   root-unsound h =
       record {
@@ -40,7 +40,7 @@ module _ (n : ℕ) (cs : List ℤ) (ks : List ℕ) (x : Column) (stop : ℕ) whe
         saw = λ d asked s e. absurd (not_through e);
       }
 
-  module _ (range : Range) (h : root_of a b ≡ Root.Sound range) where
+  module _ (range : Option Range) (h : root_of a b ≡ Some range) where
     -- Node 1, as the code carries it.
     abbrev top : Reached
     top = record { id = record { 0 = 1 }; from = record { 0 = 0 }; hours = P n; range = range }
@@ -69,7 +69,7 @@ module _ (n : ℕ) (cs : List ℤ) (ks : List ℕ) (x : Column) (stop : ℕ) whe
     unfolding outer inner_nodes
     seen-table d = rw all-levels (seen_same refl refl (omega arith))
 
-    pub top-visited : (r : Visited) → VisitedFrom n cs ks x stop 0 top r → TableVisited n cs ks x stop r
+    pub top-visited : (r : Result Seen NodeId) → VisitedFrom n cs ks x stop 0 top r → TableVisited n cs ks x stop r
     unfolding examine in_order
     top-visited r W =
         record {

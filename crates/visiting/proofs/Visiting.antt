@@ -1,45 +1,43 @@
 -- What the visit below a node promises, for each way it can go on: the node is not opened, it is unsound, or it is
 -- sound and both its halves are visited, one of which may add nothing. Assumes nothing.
 use Rattle.kit.proofs.{◌≡◌, refl, sym, ap, ◌∙◌, true, false, ◌&&◌, List, [], ◌∷◌, ◌++◌, map, map-append, ℕ, suc, ◌+◌}
-use Rattle.kit.proofs.{◌-◌, ◌≤◌, arith, ℤ, length-append}
+use Rattle.kit.proofs.{Option, Err, None, Ok, Result, ◌-◌, ◌≤◌, arith, ℤ, length-append}
+use Rattle.node.specs.Steps.{halves_as}
 use Rattle.words.specs.declared.{Column.Column, NodeId.NodeId, Range.Range}
 use Rattle.om3.specs.Document.{keep, Node, number, left, right, Table, lent, reached, Check, and_then, in_order}
 use Rattle.om3.specs.Document.{sound_node, nodes_below, examine_node, examine_nodes, has_reading, shares, inside}
-use Rattle.om3.specs.Document.{opened}
-use Rattle.om3.specs.Document.{visited, is_outer, is_inner}
+use Rattle.om3.specs.Document.{opened, visited, is_outer, is_inner}
 use Rattle.node.proofs.Located.{one_more}
 use Rattle.laws.proofs.{Examined.in-order-append, BelowOpened.inner-kept, BelowOpened.inner-end, BelowOpened.outer-end}
 use Rattle.laws.proofs.BelowOpened.{visited-left, visited-right, opened-kept, unopened-kept, outer-kept, range-append}
-use Rattle.node.specs.declared.Halves.{Halves}
 use Rattle.examining.proofs.Answers.{Stepped, stepped, not-stepped}
 use Rattle.stepping.specs.Nodes.{At, Below, left_reached, right_reached, touches_of, inside_of, opened_of, StopsAt}
 use Rattle.stepping.specs.{Stepping.SteppedDown, declared.Reached.Reached}
 use Rattle.stepping.proofs.Lending.{some-hours, left_below, right-below}
 use Rattle.stepping.proofs.Touching.{touches-is, inside_is, opened-is, left_at, right-at}
 use Rattle.sight.specs.{Seen.unopened_of, Seen.both_seen, Seen.seen_of, declared.Seen.Seen}
-use Rattle.sight.proofs.SeenTogether.{seen_same, inner-append, inner-alone, outer-alone, nothing-before}
-use Rattle.sight.proofs.SeenTogether.{nothing-after, alone-below, both_below}
+use Rattle.sight.proofs.SeenTogether.{seen_same, inner-append, inner-alone, outer-alone, nothing-before, nothing-after}
+use Rattle.sight.proofs.SeenTogether.{alone-below, both_below}
 use Rattle.visiting.specs.Visiting.{visit_check, Visits, VisitedFrom}
-use Rattle.visiting.specs.declared.Visited.{Visited}
 
-through_same : {a b : Seen} → Visited.Through a ≡ Visited.Through b → a ≡ b
+through_same : {a b : Seen} → ◌≡◌ {A = Result Seen NodeId} (Ok a) (Ok b) → a ≡ b
 through_same e = cc
 
-pub not_through : {i : NodeId} {s : Seen} → Visited.Unsound i ≡ Visited.Through s → ⊥
+pub not_through : {i : NodeId} {s : Seen} → Err i ≡ Ok s → ⊥
 not_through e = let z : ◌≡◌ {A = ℕ} 0 1 = cc in omega arith
 
 module _ (n : ℕ) (cs : List ℤ) (ks : List ℕ) (x : Column) (stop : ℕ) where
   abbrev T : Table
   T = lent cs ks
 
-  abbrev From : ℕ → Reached → Visited → Type 0
+  abbrev From : ℕ → Reached → Result Seen NodeId → Type 0
   From c at r = VisitedFrom n cs ks x stop c at r
 
   -- A visit that says of a node that it is unsound saw nothing.
   says-unsound : {c : ℕ} {at : Reached} {i : NodeId}
-      → ((l d : ℕ) (v : Node) → StopsAt l d x stop → At l T v at → visit_check (Visited.Unsound i)
+      → ((l d : ℕ) (v : Node) → StopsAt l d x stop → At l T v at → visit_check (Err i)
       ≡ examine_nodes l n T (keep (opened l T x d) (nodes_below (suc (l - v.level)) v)))
-      → From c at (Visited.Unsound i)
+      → From c at (Err i)
   says-unsound first =
       record {
         few = λ s e. absurd (not_through e);
@@ -73,14 +71,14 @@ module _ (n : ℕ) (cs : List ℤ) (ks : List ℕ) (x : Column) (stop : ℕ) whe
           )
           (seen_same (outer-alone l T A v here.range) (inner-alone l T (A && inside l x v) v here) (omega arith))
 
-      unopened-visits : Visits l n T x d c v (Visited.Through (unopened_of x c at))
+      unopened-visits : Visits l n T x d c v (Ok (unopened_of x c at))
       unopened-visits =
           record {
             examined = rw none-opened (unfold in_order in refl);
             saw = λ s e. sym (through_same e) ∙ unopened-seen;
           }
 
-    pub unopened-visited : Below stop cs ks at → From c at (Visited.Through (unopened_of x c at))
+    pub unopened-visited : Below stop cs ks at → From c at (Ok (unopened_of x c at))
     unopened-visited lent =
         record {
           below = λ s e.
@@ -145,7 +143,7 @@ module _ (n : ℕ) (cs : List ℤ) (ks : List ℕ) (x : Column) (stop : ℕ) whe
           (inner-append l T (keep (is_inner l T x d) (below (left v))) (keep (is_inner l T x d) (below (right v))))
           (omega (arith, length-append L R)))
 
-    pub node-unsound : SteppedDown n cs ks at Halves.Unsound → From c at (Visited.Unsound at.id)
+    pub node-unsound : SteppedDown n cs ks at None → From c at (Err at.id)
     node-unsound step =
         says-unsound (λ l d v asked here.
         let no = not-stepped (sound_node l n T v) _ _ (sym (step.halves l v here)) in
@@ -153,7 +151,7 @@ module _ (n : ℕ) (cs : List ℤ) (ks : List ℕ) (x : Column) (stop : ℕ) whe
         sym (opened-checks l d v asked here ∙ rw (no, same)))
 
     -- It is sound, and these are its halves.
-    module _ (r q : Range) (step : SteppedDown n cs ks at (Halves.Sound r q)) where
+    module _ (r q : Option Range) (step : SteppedDown n cs ks at (halves_as r q)) where
       abbrev first : Reached
       first = left_reached at r
 
@@ -186,32 +184,32 @@ module _ (n : ℕ) (cs : List ℤ) (ks : List ℕ) (x : Column) (stop : ℕ) whe
             ≡ and_then (checks l d v asked here (left v)) (checks l d v asked here (right v))
         halves-check = opened-checks l d v asked here ∙ rw S.is_sound
 
-        left-visits : (z : Visited) → From (c + 1) first z → Visits l n T x d (c + 1) (left v) z
+        left-visits : (z : Result Seen NodeId) → From (c + 1) first z → Visits l n T x d (c + 1) (left v) z
         left-visits z F = F.visits l d (left v) asked left_here left-visited
 
-        right-visits : (m : ℕ) (z : Visited) → From m second z → Visits l n T x d m (right v) z
+        right-visits : (m : ℕ) (z : Result Seen NodeId) → From m second z → Visits l n T x d m (right v) z
         right-visits m z F = F.visits l d (right v) asked right-here right-visited
 
-      pub left-unsound : (i : NodeId) → From (c + 1) first (Visited.Unsound i) → From c at (Visited.Unsound i)
+      pub left-unsound : (i : NodeId) → From (c + 1) first (Err i) → From c at (Err i)
       left-unsound i F =
           says-unsound (λ l d v asked here.
           sym (halves-check l d v asked here
-          ∙ rw (sym (left-visits l d v asked here (Visited.Unsound i) F).examined)))
+          ∙ rw (sym (left-visits l d v asked here (Err i) F).examined)))
 
-      module _ (a : Seen) (F : From (c + 1) first (Visited.Through a)) where
+      module _ (a : Seen) (F : From (c + 1) first (Ok a)) where
         left-passes : (l d : ℕ) (v : Node) (asked : StopsAt l d x stop) (here : At l T v at)
             → checks l d v asked here v ≡ checks l d v asked here (right v)
         left-passes l d v asked here =
-            halves-check l d v asked here ∙ rw (sym (left-visits l d v asked here (Visited.Through a) F).examined)
+            halves-check l d v asked here ∙ rw (sym (left-visits l d v asked here (Ok a) F).examined)
 
-        pub right-unsound : (i : NodeId) → From a.opened second (Visited.Unsound i) → From c at (Visited.Unsound i)
+        pub right-unsound : (i : NodeId) → From a.opened second (Err i) → From c at (Err i)
         right-unsound i G =
             says-unsound (λ l d v asked here.
-            (right-visits l d v asked here a.opened (Visited.Unsound i) G).examined
+            (right-visits l d v asked here a.opened (Err i) G).examined
             ∙ sym (left-passes l d v asked here))
 
-        pub both-seen : (b : Seen) → From a.opened second (Visited.Through b)
-            → From c at (Visited.Through (both_seen a b))
+        pub both-seen : (b : Seen) → From a.opened second (Ok b)
+            → From c at (Ok (both_seen a b))
         both-seen b G =
             record {
               few = λ s e.
@@ -221,8 +219,8 @@ module _ (n : ℕ) (cs : List ℤ) (ks : List ℕ) (x : Column) (stop : ℕ) whe
                   rw (sym (through_same e))
                   (both_below stop cs ks a.inner b.inner (F.below a refl) (G.below b refl));
               visits = λ l d v asked here seen.
-                  let L = left-visits l d v asked here (Visited.Through a) F in
-                  let R = right-visits l d v asked here a.opened (Visited.Through b) G in
+                  let L = left-visits l d v asked here (Ok a) F in
+                  let R = right-visits l d v asked here a.opened (Ok b) G in
                   record {
                     examined = R.examined ∙ sym (left-passes l d v asked here);
                     saw = λ s e.
@@ -231,15 +229,15 @@ module _ (n : ℕ) (cs : List ℤ) (ks : List ℕ) (x : Column) (stop : ℕ) whe
             }
 
       -- Only one half touches the column: the visit goes on with that one.
-      pub only-second : touches_of x first ≡ false → (z : Visited) → From (c + 1) second z → From c at z
-      only-second apart (Visited.Unsound i) G =
+      pub only-second : touches_of x first ≡ false → (z : Result Seen NodeId) → From (c + 1) second z → From c at z
+      only-second apart (Err i) G =
           right-unsound (unopened_of x (c + 1) first) (unopened-visited (c + 1) first (rw apart) first-lent) i G
-      only-second apart (Visited.Through b) G =
+      only-second apart (Ok b) G =
           let F = unopened-visited (c + 1) first (rw apart) first-lent in
           rw (nothing-before x first apart (c + 1) b) at (both-seen (unopened_of x (c + 1) first) F b G)
 
-      pub only-first : touches_of x second ≡ false → (z : Visited) → From (c + 1) first z → From c at z
-      only-first apart (Visited.Unsound i) F = left-unsound i F
-      only-first apart (Visited.Through a) F =
+      pub only-first : touches_of x second ≡ false → (z : Result Seen NodeId) → From (c + 1) first z → From c at z
+      only-first apart (Err i) F = left-unsound i F
+      only-first apart (Ok a) F =
           let G = unopened-visited a.opened second (rw apart) second-lent in
           rw (nothing-after x second apart a) at (both-seen a F (unopened_of x a.opened second) G)

@@ -9,23 +9,16 @@ ghost use Rattle.stepping.specs.Nodes.{LentTo, Below};
 ghost use Rattle.visiting.specs.Visiting.{VisitedFrom, TableVisited};
 ghost use Rattle.visiting.specs.Narrowing.{NarrowedFrom};
 
-use node::{Halves, Root};
+use node::Halves;
 use sight::Seen;
-use stepping::{Reached, by_parts, nodes};
+use sizes::Table;
+use stepping::{Reached, nodes};
 use words::{Column, NodeId, Timestamp};
 
-// A visit is through, or this is the first unsound node that it opened.
-#[derive(Clone, Copy)]
-pub enum Visited {
-    Unsound(NodeId),
-    Through(Seen),
-}
-
-// Where a visit has come to that had one half to go on with at each node: to an unsound node, to one that is not
-// opened, or to two halves that both are to be visited.
+// Where a visit has come to that had one half to go on with at each node, all sound: to one that is not opened, or to
+// two halves that both are to be visited.
 #[derive(Clone, Copy)]
 pub enum Narrowed {
-    Unsound(NodeId),
     Ended {
         at: Reached,
         opened: usize,
@@ -38,43 +31,39 @@ pub enum Narrowed {
 }
 
 // Visits from a node on, opening each that is to be opened, as long as no more than one of the two halves touches the
-// column. The node is one of a table whose details and codes are there for nodes of more than `stop` hours, and its
-// range is one of readings; not too many nodes were opened before, and `stop` is 1 or more.
+// column. The error of this and of every visit is the first unsound node that it opened. The node is one of a table
+// whose details and codes are there for nodes of more than `stop` hours, and its range is one of readings; not too many
+// nodes were opened before, and `stop` is 1 or more.
 fn narrow(
-    n: usize,
-    coefficients: &[i32],
-    codes: &[u8],
+    table: &Table,
     x: Column,
     stop: usize,
     before: usize,
     start: Reached,
-) -> Narrowed
-    requires below { Below stop coefficients.now codes.now start }
+) -> Result<Narrowed, NodeId>
+    requires below { Below stop table.now.coefficients.now table.now.codes.now start }
     requires hours_bound { before + start.hours ≤ largest_hours }
     requires le_stop { 1 ≤ stop }
-    ensures { NarrowedFrom n coefficients.now codes.now x stop before start result }
+    ensures { NarrowedFrom table.now.n table.now.coefficients.now table.now.codes.now
+        x stop before start result }
 {
-    let mut at = by_parts::copy_node(start);
+    let mut at = start;
     let mut opened = before;
+    // No index is counted here: a node is made of the one before it, and only its look says whether it is opened.
     while nodes::is_opened(x, stop, at) {
-        let id = at.id;
-        let from = at.from;
-        let range = at.range;
         let pair = nodes::is_pair(at.hours);
-        let halves = stepping::step(n, coefficients, codes, id, from, pair, range);
-        let Halves::Sound { left, right } = halves else {
-            return Narrowed::Unsound(id);
-        };
+        let halves = stepping::step(table, at.id, at.from, pair, at.range);
+        let Halves { left, right } = halves.ok_or(at.id)?;
         let first = nodes::left_half(at, left);
         let second = nodes::right_half(at, right);
-        opened = opened + 1;
+        opened += 1;
         if nodes::touches(x, second) {
             if nodes::touches(x, first) {
-                return Narrowed::Split {
+                return Ok(Narrowed::Split {
                     first,
                     second,
                     opened,
-                };
+                });
             }
             at = second;
         } else {
@@ -82,70 +71,54 @@ fn narrow(
             at = first;
         }
     }
-    Narrowed::Ended { at, opened }
+    Ok(Narrowed::Ended { at, opened })
 }
 
 // Visits a node and all nodes below it that the column opens or comes to: it calls itself on both halves wherever both
 // touch the column. What it needs of the node and of the rest is what narrowing needs. [forms 8]
 fn visit(
-    n: usize,
-    coefficients: &[i32],
-    codes: &[u8],
+    table: &Table,
     x: Column,
     stop: usize,
     before: usize,
     start: Reached,
-) -> Visited
-    requires below { Below stop coefficients.now codes.now start }
+) -> Result<Seen, NodeId>
+    requires below { Below stop table.now.coefficients.now table.now.codes.now start }
     requires hours_bound { before + start.hours ≤ largest_hours }
     requires le_stop { 1 ≤ stop }
-    ensures { VisitedFrom n coefficients.now codes.now x stop before start result }
+    ensures { VisitedFrom table.now.n table.now.coefficients.now table.now.codes.now
+        x stop before start result }
 {
-    match narrow(n, coefficients, codes, x, stop, before, start) {
-        Narrowed::Unsound(i) => Visited::Unsound(i),
-        Narrowed::Ended { at, opened } => Visited::Through(sight::unopened(x, opened, at)),
+    match narrow(table, x, stop, before, start)? {
+        Narrowed::Ended { at, opened } => Ok(sight::unopened(x, opened, at)),
         Narrowed::Split {
             first,
             second,
             opened,
         } => {
-            let left = visit(n, coefficients, codes, x, stop, opened, first);
-            let Visited::Through(a) = left else {
-                return left;
-            };
-            let right = visit(n, coefficients, codes, x, stop, a.opened, second);
-            let Visited::Through(b) = right else {
-                return right;
-            };
-            Visited::Through(sight::both_seen(a, b))
+            let a = visit(table, x, stop, opened, first)?;
+            let b = visit(table, x, stop, a.opened, second)?;
+            Ok(sight::both_seen(a, b))
         }
     }
 }
 
-// Visits a table of n hours and p = P places for a column that has an hour, from the root values down to nodes that
-// cover `stop` hours, 1 or more. Of the details and codes only those are needed that nodes of more hours have.
-pub fn visit_table(
-    n: usize,
-    p: usize,
-    coefficients: &[i32],
-    codes: &[u8],
-    x: Column,
-    stop: usize,
-) -> Visited
-    requires p_value { p ≡ P n }
-    requires lent_to { LentTo stop (levels n) coefficients.now codes.now }
+// Visits a table of p = P places for a column that has an hour, from the root values down to nodes that cover `stop`
+// hours, 1 or more. Of the details and codes only those are needed that nodes of more hours have.
+pub fn visit_table(table: &Table, p: usize, x: Column, stop: usize) -> Result<Seen, NodeId>
+    requires p_value { p ≡ P table.now.n }
+    requires lent_to { LentTo stop (levels table.now.n) table.now.coefficients.now table.now.codes.now }
     requires le_stop { 1 ≤ stop }
-    ensures { TableVisited n coefficients.now codes.now x stop result }
+    ensures { TableVisited table.now.n table.now.coefficients.now table.now.codes.now
+        x stop result }
 {
-    let root = node::root_range(coefficients[0], coefficients[1]);
-    let Root::Sound(range) = root else {
-        return Visited::Unsound(NodeId(0));
-    };
+    let root = node::root_range(table.coefficients[0], table.coefficients[1]);
+    let range = root.ok_or(NodeId(0))?;
     let top = Reached {
         id: NodeId(1),
         from: Timestamp(0),
         hours: p,
         range,
     };
-    visit(n, coefficients, codes, x, stop, 0, top)
+    visit(table, x, stop, 0, top)
 }

@@ -1,13 +1,14 @@
 -- What the walk from a node promises, for each way it can go on: the node is a single hour, it is unsound, or it is
 -- sound and the walk goes on with the half that it takes. Assumes nothing.
-use Rattle.kit.proofs.{◌≡◌, refl, sym, ap, ◌∙◌, Bool, true, false, List, ◌∷◌, ⊎_elim, ℕ, suc, ◌+◌, ◌-◌, ◌^◌, ◌≤◌}
-use Rattle.kit.proofs.{◌<◌, arith, ℤ, mag}
+use Rattle.kit.proofs.{◌≡◌, refl, sym, ap, ◌∙◌, Bool, true, false, List, ◌∷◌, ⊎_elim, ℕ, suc, ◌+◌, ◌-◌, ◌^◌, ◌≤◌, Some}
+use Rattle.kit.proofs.{Err, None, Option, Result, ◌<◌, arith, ℤ, mag}
+use Rattle.node.specs.Steps.{halves_as}
+use Rattle.walking.specs.Walking.{walked_as, takes_left, towards, Walks, Small, WalkedFrom}
 use Rattle.signed.proofs.{signed, reads-back}
-use Rattle.words.specs.{low_of, Readings, declared.Range.TheVariants.Held, declared.Reading.Reading}
-use Rattle.words.specs.declared.{Column.Column, NodeId.NodeId, Range.Range, Range.TheVariants.Empty}
+use Rattle.words.specs.{low_of, Readings, declared.Reading.Reading}
+use Rattle.words.specs.declared.{Column.Column, NodeId.NodeId, Range.Range}
 use Rattle.om3.specs.Document.{Node, number, left, right, Table, lent, reached, in_order, sound_node, walk_nodes}
-use Rattle.om3.specs.Document.{walk_end}
-use Rattle.om3.specs.Document.{reading_at}
+use Rattle.om3.specs.Document.{walk_end, reading_at}
 use Rattle.laws.proofs.{Tests.below_or_not, Nodes.width-half, Nodes.start-hour, Intervals.width_some}
 use Rattle.node.proofs.{Located.above-hours, Told.back}
 use Rattle.node.specs.declared.Halves.{Halves}
@@ -17,13 +18,14 @@ use Rattle.stepping.specs.{Stepping.Steps, Stepping.SteppedDown, Stepping.Steppe
 use Rattle.stepping.proofs.Lending.{steps, some-hours, ends-within, left_below, right-below}
 use Rattle.stepping.proofs.Touching.{left_at, right-at}
 use Rattle.walking.specs.declared.{Towards.Towards, Walked.Walked}
-use Rattle.walking.specs.Walking.{takes_left, towards, Walks, Small, WalkedFrom}
 
-not-came : {i : NodeId} {r : Reading} {m : ℕ} → Walked.Unsound i ≡ Walked.Came r m → ⊥
+not-came : {i : NodeId} {r : Reading} {m : ℕ} → Err i ≡ walked_as r m → ⊥
 not-came e = let z : ◌≡◌ {A = ℕ} 0 1 = cc in omega arith
 
-came_same : {r q : Reading} {m k : ℕ} → Walked.Came r m ≡ Walked.Came q k → (r ≡ q) × (m ≡ k)
-came_same e = (cc, cc)
+came_same : {r q : Reading} {m k : ℕ} → walked_as r m ≡ walked_as q k → (r ≡ q) × (m ≡ k)
+came_same {r} {q} {m} {k} e =
+    let same : ◌≡◌ {A = Walked} (record { reading = r; levels = m }) (record { reading = q; levels = k }) = cc in
+    (ap (λ (w : Walked). w.reading) same, ap (λ (w : Walked). w.levels) same)
 
 -- The half that is taken, by what is reached at both.
 taken-left : (l : ℕ) (t : Table) (w : Towards) (v : Node)
@@ -37,9 +39,9 @@ taken-right l t Towards.First v e = rw e
 taken-right l t Towards.Last v e = rw e
 
 -- The low of a range of readings is small; so is the gap mark of an empty one.
-small_low : (r : Range) → Readings r → Small (low_of r)
-small_low Empty p = omega signed
-small_low (Held a b) p = omega signed
+small_low : (r : Option Range) → Readings r → Small (low_of r)
+small_low None p = omega signed
+small_low (Some r) p = omega signed
 
 -- One level of a walk.
 module _ (half : Node → Node) (h k : ℕ) (v u : Node) (more : h ≡ suc k) (takes : half v ≡ u) where
@@ -55,7 +57,7 @@ module _ (n : ℕ) (cs : List ℤ) (ks : List ℕ) (w : Towards) where
   abbrev T : Table
   T = lent cs ks
 
-  abbrev From : ℕ → Reached → Walked → Type 0
+  abbrev From : ℕ → Reached → Result Walked NodeId → Type 0
   From c at r = WalkedFrom n cs ks w c at r
 
   -- A single hour is its own end.
@@ -78,7 +80,7 @@ module _ (n : ℕ) (cs : List ℤ) (ks : List ℕ) (w : Towards) where
         let low = ap low_of here.range in
         λ k. record { hour = record { 0 = index k }; grams = low k }
 
-    pub hour-came : From c at (Walked.Came reading c)
+    pub hour-came : From c at (walked_as reading c)
     unfolding walk_nodes walk_end in_order
     hour-came =
         record {
@@ -98,7 +100,7 @@ module _ (n : ℕ) (cs : List ℤ) (ks : List ℕ) (w : Towards) where
     one_more : (l : ℕ) (v : Node) → At l T v at → l - v.level ≡ suc (l - suc v.level)
     one_more l v here = let h = above-hours here.located two in omega arith
 
-    pub node-unsound : SteppedDown n cs ks at Halves.Unsound → From c at (Walked.Unsound at.id)
+    pub node-unsound : SteppedDown n cs ks at None → From c at (Err at.id)
     unfolding walk_nodes in_order
     node-unsound step =
         record {
@@ -115,14 +117,14 @@ module _ (n : ℕ) (cs : List ℤ) (ks : List ℕ) (w : Towards) where
         }
 
     -- A sound node: the walk from the half that is taken is the rest of it.
-    module _ (a b : Range) (step : SteppedDown n cs ks at (Halves.Sound a b)) where
+    module _ (a b : Option Range) (step : SteppedDown n cs ks at (halves_as a b)) where
       abbrev S : (l : ℕ) (v : Node) → At l T v at
           → Stepped (sound_node l n T v) (reached l T (left v)) (reached l T (right v)) a b
       S l v here =
           stepped (sound_node l n T v) (reached l T (left v)) (reached l T (right v)) (sym (step.halves l v here))
 
       goes_on : (l : ℕ) (v u : Node) → At l T v at → towards l T w v ≡ u
-          → u.level ≡ suc v.level → (r : Walked) → Walks l n T w (c + 1) u r → Walks l n T w c v r
+          → u.level ≡ suc v.level → (r : Result Walked NodeId) → Walks l n T w (c + 1) u r → Walks l n T w c v r
       unfolding in_order
       goes_on l v u here takes deeper r D =
           let more : l - v.level ≡ suc (l - u.level) = let h = above-hours here.located two in omega arith in
@@ -133,7 +135,8 @@ module _ (n : ℕ) (cs : List ℤ) (ks : List ℕ) (w : Towards) where
             counted = λ q m e. omega (arith, D.counted q m e);
           }
 
-      pub goes_left : takes_left w a b ≡ true → (r : Walked) → From (c + 1) (left_reached at a) r → From c at r
+      pub goes_left : takes_left w a b ≡ true → (r : Result Walked NodeId) → From (c + 1) (left_reached at a) r
+          → From c at r
       goes_left takes r D =
           record {
             few = λ q m e. omega (arith, D.few q m e);
@@ -144,7 +147,8 @@ module _ (n : ℕ) (cs : List ℤ) (ks : List ℕ) (w : Towards) where
                 goes_on l v (left v) here e refl r (D.walks l (left v) (left_at here two s.first));
           }
 
-      pub goes-right : takes_left w a b ≡ false → (r : Walked) → From (c + 1) (right_reached at b) r → From c at r
+      pub goes-right : takes_left w a b ≡ false → (r : Result Walked NodeId) → From (c + 1) (right_reached at b) r
+          → From c at r
       goes-right takes r D =
           record {
             few = λ q m e. omega (arith, D.few q m e);
@@ -159,7 +163,7 @@ module _ (n : ℕ) (cs : List ℤ) (ks : List ℕ) (w : Towards) where
   pub record CameTo (start at : Reached) (c : ℕ) : Type 0 where
     pub below : Below 1 cs ks at
     pub room : c + at.hours ≤ start.hours
-    pub rest : (r : Walked) → From c at r → From 0 start r
+    pub rest : (r : Result Walked NodeId) → From c at r → From 0 start r
 
   pub at-start : (start : Reached) → Below 1 cs ks start → CameTo start start 0
   at-start start b = record { below = b; room = omega arith; rest = λ r d. d }
@@ -167,7 +171,7 @@ module _ (n : ℕ) (cs : List ℤ) (ks : List ℕ) (w : Towards) where
   -- From a node that the code has come to.
   module _ {start at : Reached} {c : ℕ} (came : CameTo start at c) where
     pub hour-read : at.hours ≤ 1 → {z : ℤ} → mag z < 2 ^ 31 → z ≡ low_of at.range
-        → From 0 start (Walked.Came (record { hour = at.from; grams = back z }) c)
+        → From 0 start (walked_as (record { hour = at.from; grams = back z }) c)
     hour-read one {z} fits e =
         came.rest _ (rw (reads-back z fits, e) (hour-came c at came.below one))
 
@@ -179,12 +183,13 @@ module _ (n : ℕ) (cs : List ℤ) (ks : List ℕ) (w : Towards) where
         pub steps-there : Steps cs ks at.id at.from pair at.range
         steps-there = rw asked (steps came.below two two)
 
-        module _ {halves : Halves} (step : SteppedFrom n cs ks at.id at.from pair at.range halves) where
-          pub unsound : halves ≡ Halves.Unsound → From 0 start (Walked.Unsound at.id)
+        module _ {halves : Option Halves} (step : SteppedFrom n cs ks at.id at.from pair at.range halves) where
+          pub unsound : halves ≡ None → From 0 start (Err at.id)
           unsound is = came.rest _ (node-unsound c at two (rw is at (step _ two asked)))
 
-          module _ {a b : Range} (is : halves ≡ Halves.Sound a b) {takes : Bool} (told : takes ≡ takes_left w a b) where
-            abbrev down : SteppedDown n cs ks at (Halves.Sound a b)
+          module _ {a b : Option Range} (is : halves ≡ halves_as a b) {takes : Bool}
+              (told : takes ≡ takes_left w a b) where
+            abbrev down : SteppedDown n cs ks at (halves_as a b)
             down = rw is at (step _ two asked)
 
             pub came-left : {u : Reached} → takes ≡ true → u ≡ left_reached at a → CameTo start u (c + 1)

@@ -1,7 +1,8 @@
 -- What writing a record asks, which is nothing, and what it promises, of its contract as the kit reads it. Assumes
 -- nothing.
 use Rattle.kit.proofs.{refl, sym, ◌∙◌, List, ℕ}
-use Rattle.words.specs.declared.Writing.{Writing}
+use Rattle.kit.proofs.{Result}
+use Rattle.words.specs.declared.Refusal.{Refusal}
 use Rattle.kit.specs.Calls.{Call, fourth}
 use Rattle.writing.specs.Writing.{RecordWritten}
 use Rattle.writing.specs.contracts.write_record
@@ -11,7 +12,7 @@ abbrev pub WriteRecordCall : Type 2
 WriteRecordCall =
     Call write_record.ended (λ M 𝓤 𝓛. write_record.clauses 𝓛) write_record_code.Symbol.code write_record.Key.name
     (λ κs n coefficients codes bytes r e. RecordWritten n coefficients.now codes.now bytes.now (fourth e).now r)
-    {B = Writing × List ℕ} (λ κs r e. (r, (fourth e).now))
+    {B = Result ℕ Refusal × List ℕ} (λ κs r e. (r, (fourth e).now))
 
 pub write-record-call : WriteRecordCall
 write-record-call =

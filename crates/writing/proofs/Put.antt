@@ -48,9 +48,6 @@ module _ (stated n : ℕ) (old : List ℕ) (long : header_size ≤ length old) w
         let w : 5 + length (bytes_of 2 n) ≡ 7 = omega (arith, bytes-length 2 n) in
         rw (field, begun-put) (filled-part begun old (bytes_of 2 n) 5 7 begun-length w)
 
-  pub header-kept : length (filled (header_of stated n) old) ≡ length old
-  header-kept = filled-length (header_of stated n) old (omega (arith, header-size stated n))
-
 -- The whole record, once its header is there.
 module _ (n : ℕ) (cs : List ℤ) (ks old : List ℕ) (ready : Ready n cs ks (length old)) where
   pub enough : header_size + 3 * length cs + length ks ≤ length old

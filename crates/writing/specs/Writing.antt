@@ -3,8 +3,9 @@
 --   Ready n cs ks size   P coefficients, each of which three bytes hold, P/2 codes, and room for their record
 --   RecordWritten        the contract of `write_record`: its answer, and the lent bytes whole
 use Rattle.std.specs.Prelude.{◌≡◌, List, ℕ, ◌/◌, ◌≤◌, ℤ, length}
+use Rattle.std.specs.Prelude.{Result}
+use Rattle.words.specs.declared.Refusal.{Refusal}
 use Rattle.words.specs.Constants.{largest_hours}
-use Rattle.words.specs.declared.Writing.{Writing}
 use Rattle.om3.specs.Series.{P}
 use Rattle.om3.specs.Table.{lent}
 use Rattle.om3.specs.Checks.{in_order}
@@ -23,6 +24,6 @@ pub record Ready (n : ℕ) (cs : List ℤ) (ks : List ℕ) (size : ℕ) : Type 0
 
 -- The table of n hours in lent coefficients cs and codes ks becomes its record in the lent bytes out.
 -- [refusals 14, 15, 16, 18] [statements 1]
-pub record RecordWritten (n : ℕ) (cs : List ℤ) (ks : List ℕ) (out out' : List ℕ) (r : Writing) : Type 0 where
+pub record RecordWritten (n : ℕ) (cs : List ℤ) (ks : List ℕ) (out out' : List ℕ) (r : Result ℕ Refusal) : Type 0 where
   pub answer : r ≡ writing n (lent cs ks) (length out)
   pub bytes : out' ≡ written_by (in_order (writing_checks n (lent cs ks) (length out))) (record_of n (lent cs ks)) out

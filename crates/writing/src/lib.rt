@@ -7,8 +7,7 @@ ghost use Rattle.om3.specs.Calls.{filled};
 ghost use Rattle.om3.specs.Record.{header_of, header_size, record_of};
 ghost use Rattle.writing.specs.Writing.{Ready, RecordWritten};
 
-use examining::Verdict;
-use words::{Refusal, Writing};
+use words::Refusal;
 
 // Writes the fields before the coefficients, for which there is room: the length of what follows the first field, the
 // version, and n.
@@ -22,7 +21,8 @@ fn put_header(stated: usize, n: usize, bytes: &mut [u8])
 }
 
 // Writes the record of n hours with these P coefficients, each of which three bytes hold, and P/2 codes into the first
-// bytes of a buffer that has room for it. The codes stand directly after the last coefficient. [forms 6]
+// bytes of a buffer that has room for it. The codes stand directly after the last coefficient. Hours, coefficients and
+// codes stay apart: a struct for this one call would be no plainer. [forms 6]
 fn put_record(n: usize, coefficients: &[i32], codes: &[u8], bytes: &mut [u8])
     requires { Ready n coefficients.now codes.now (length bytes.old) }
     ensures { bytes.new
@@ -38,24 +38,21 @@ fn put_record(n: usize, coefficients: &[i32], codes: &[u8], bytes: &mut [u8])
 }
 
 // Writes the record of a table of n hours. Refusals in the order 1, 3, 4; on a refusal nothing is written.
-pub fn write_record(n: usize, coefficients: &[i32], codes: &[u8], bytes: &mut [u8]) -> Writing
+pub fn write_record(
+    n: usize,
+    coefficients: &[i32],
+    codes: &[u8],
+    bytes: &mut [u8],
+) -> Result<usize, Refusal>
     ensures { RecordWritten n coefficients.now codes.now
         bytes.old bytes.new result }
 {
-    if sizes::bad_hours(n) {
-        return Writing::Refused(Refusal::BadHours);
-    }
-    let places = sizes::places(n);
-    if sizes::table_short(places, coefficients.len(), codes.len()) {
-        return Writing::Refused(Refusal::ShortBuffer);
-    }
-    let size = sizes::record_size(places);
+    let whole = sizes::lent_table(n, coefficients, codes)?;
+    let size = sizes::record_size(whole.p);
     if bytes.len() < size {
-        return Writing::Refused(Refusal::ShortBuffer);
+        return Err(Refusal::ShortBuffer);
     }
-    if let Verdict::Unsound(i) = examining::examine(n, places, coefficients, codes) {
-        return Writing::Refused(Refusal::Unsound(i));
-    }
-    put_record(n, &coefficients[..places], &codes[..places / 2], bytes);
-    Writing::Bytes(size)
+    examining::examine(whole).map_err(Refusal::Unsound)?;
+    put_record(n, &coefficients[..whole.p], &codes[..whole.p / 2], bytes);
+    Ok(size)
 }

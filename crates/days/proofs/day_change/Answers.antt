@@ -1,30 +1,32 @@
 -- `day_change` makes the checks in their order, finishes the column of the day's hours, and hands its answer on.
 -- Assumes nothing.
-use Rattle.kit.proofs.{◌*◌, ◌≤◌, arith}
+use Rattle.kit.proofs.{◌*◌, ◌≤◌, ◌<◌, arith}
+use Rattle.std.proofs.Common.{rules}
 use Rattle.words.specs.{day_hours}
-use Rattle.laws.proofs.Making.{good-some}
+use Rattle.visiting.proofs.Handed.{handed-on}
 use Rattle.days.proofs.Changing as laws
 use Rattle.days.proofs.day_change.Goals as goal
 
-pub returns-then-d-ge-LARGEST_HOURS : goal.returns-then-d-ge-LARGEST_HOURS
-returns-then-d-ge-LARGEST_HOURS c =
-    let p = c.in-Places.ensures in
-    let late : c.args.n ≤ day_hours * c.args.d =
-    omega (arith, c.if-d-ge-LARGEST_HOURS.true, (good-some c.args.n p.table.good).1) in
-    laws.day-late _ _ _ _ p.checks late
+pub returns-in_err-whole : goal.returns-in_err-whole
+returns-in_err-whole c = search (laws.day-lent, c.in_err-whole.ensures, rules)
 
-pub returns-then-n-d : goal.returns-then-n-d
-returns-then-n-d c = laws.day-late _ _ _ _ c.in-Places.ensures.checks c.if-n-d.true
+pub returns-then-div_ceil-d : goal.returns-then-div_ceil-d
+returns-then-div_ceil-d c =
+    let late : c.args.n ≤ day_hours * c.args.d = omega (arith, c.div_ceil.ensures) in
+    laws.day-late _ _ _ _ c.in_ok-whole.ensures.checks late
 
-pub returns-in-Refused : goal.returns-in-Refused
-returns-in-Refused c = laws.day-lent _ _ _ _ _ c.in-Refused.ensures
+pub returns-in_err-own : goal.returns-in_err-own
+returns-in_err-own c =
+    let there : day_hours * c.args.d < c.args.n = omega (arith, c.div_ceil.ensures) in
+    let same = handed-on c.from_residual-in_err-own.result _ c.from_residual-in_err-own.ensures.1 in
+    let t = c.in_ok-whole.ensures in
+    let refused = rw (t.hours, t.coefficients, t.codes) at c.in_err-own.ensures in
+    rw same (laws.day-refused _ _ _ _ t.checks there _ c.hours_of.ensures _ refused)
 
-pub returns-in-Refused-finished_over : goal.returns-in-Refused-finished_over
-returns-in-Refused-finished_over c =
-    laws.day-refused _ _ _ _ c.in-Places.ensures.checks c.if-n-d.false _ c.hours_of-x.ensures _
-    c.in-Refused-finished_over.ensures
-
-pub returns-in-Answered : goal.returns-in-Answered
-returns-in-Answered c =
-    laws.day-answered _ _ _ _ c.in-Places.ensures.checks c.if-n-d.false _ c.hours_of-x.ensures _ _ c.in-Answered.ensures
-    _ c.change_given.ensures
+pub returns : goal.returns
+returns c =
+    let there : day_hours * c.args.d < c.args.n = omega (arith, c.div_ceil.ensures) in
+    let t = c.in_ok-whole.ensures in
+    let told = rw (t.hours, t.coefficients, t.codes) at c.in_ok-own.ensures in
+    let given = rw (t.hours, t.coefficients, t.codes) at c.change_given.ensures in
+    laws.day-answered _ _ _ _ t.checks there _ c.hours_of.ensures _ _ told _ given

@@ -2,4 +2,4 @@
 use Rattle.examining.proofs.+examine_below.Given as goal
 
 abbrev pub decreases-examine_below : goal.decreases-examine_below
-decreases-examine_below l = l.hours
+decreases-examine_below g l = l.hours

@@ -1,10 +1,6 @@
 -- `unpack` writes one coefficient after the other. Assumes nothing.
-use Rattle.kit.proofs.{◌-◌, length}
 use Rattle.packing.proofs.Packed.{Unpacked}
 use Rattle.packing.proofs.unpack.Given as goal
 
 abbrev pub invariant-loop-p : goal.invariant-loop-p
 invariant-loop-p l = Unpacked l.packed l.initial.out l.out l.p
-
-abbrev pub decreases-loop-p : goal.decreases-loop-p
-decreases-loop-p l = length l.initial.out - l.p

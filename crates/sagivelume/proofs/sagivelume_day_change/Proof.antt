@@ -5,7 +5,7 @@ use Rattle.sagivelume.proofs.sagivelume_day_change.Statement.{statement}
 use Rattle.sagivelume.proofs.sagivelume_day_change.Tie as tie
 
 returns : tie.Need-returns
-returns c = c.of_change.ensures ∙ ap change_told c.day_change.ensures
+returns c = c.into.ensures ∙ ap change_told c.day_change.ensures
 
 pub sagivelume_day_change_spec : {M : Type 1} → statement M
 sagivelume_day_change_spec = tie.close (tie.spec (λ c κs. search rules) (λ c κs. search rules) returns)

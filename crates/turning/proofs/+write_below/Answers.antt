@@ -15,7 +15,7 @@ write_below-requires t c =
       (
         half-of-four a.hours c.if-hours-lt4.false,
         (
-          left-told a.range _ _ c.in-Sound.is c.half_ranges-halves.ensures c.requires.readings,
+          left-told a.range _ _ c.in-Some.is c.half_ranges-halves.ensures c.requires.readings,
           (
             left-room a.i.0 (a.hours / 2) _ c.requires.hours_in_bounds,
             left-hours a.h.0 a.hours _ c.requires.hours_bound,
@@ -24,14 +24,14 @@ write_below-requires t c =
       ),
     )
 
-pub write_below-requires-in-Sound : goal.write_below-requires-in-Sound
-write_below-requires-in-Sound t c =
+pub write_below-requires-2 : goal.write_below-requires-2
+write_below-requires-2 t c =
     let a = c.args in (
       half-falls a.hours t c.decreases c.requires.le_hours,
       (
         half-of-four a.hours c.if-hours-lt4.false,
         (
-          right-told a.range _ _ c.in-Sound.is c.half_ranges-halves.ensures c.requires.readings,
+          right-told a.range _ _ c.in-Some.is c.half_ranges-halves.ensures c.requires.readings,
           (
             right-room a.i.0 (a.hours / 2) _ c.requires.hours_in_bounds,
             right-hours a.h.0 a.hours _ c.requires.hours_bound,
@@ -40,8 +40,8 @@ write_below-requires-in-Sound t c =
       ),
     )
 
-pub returns-else-hours-lt8 : goal.returns-else-hours-lt8
-returns-else-hours-lt8 t c = search (node-written, details-told)
+pub returns : goal.returns
+returns t c = search (node-written, details-told)
 
 pub returns-in_default : goal.returns-in_default
 returns-in_default t c = search (node-not-written, details-told)

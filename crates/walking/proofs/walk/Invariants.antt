@@ -4,7 +4,7 @@ use Rattle.walking.proofs.Walking.{CameTo}
 use Rattle.walking.proofs.walk.Given as goal
 
 abbrev pub invariant-loop-at : goal.invariant-loop-at
-invariant-loop-at l = CameTo l.n l.coefficients l.codes l.towards l.fn.start l.at l.levels
+invariant-loop-at l = CameTo l.table.n l.table.coefficients.now l.table.codes.now l.towards l.fn.start l.at l.levels
 
 abbrev pub decreases-loop-at : goal.decreases-loop-at
 decreases-loop-at l = l.at.hours

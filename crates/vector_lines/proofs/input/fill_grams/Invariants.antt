@@ -1,6 +1,0 @@
--- `fill_grams` fills number by number. The measure is how much room is left.
-use Rattle.std.proofs.Common.{length, ◌-◌}
-use Rattle.vector_lines.proofs.input.fill_grams.Given as goal
-
-abbrev pub decreases-loop-k : goal.decreases-loop-k
-decreases-loop-k l = length l.out - l.k
