@@ -4,7 +4,7 @@
 ghost use Rattle.std.specs.Prelude.{◌≡◌, ◌+◌, ◌^◌, ◌<◌};
 ghost use Rattle.sight.specs.Seen.{unopened_of, both_inner, both_seen};
 
-use stepping::{Reached, nodes};
+use stepping::{Reached, by_parts, nodes};
 use words::{Column, Range};
 
 // The nodes of an inner range: the least low and the greatest high of all, and the first and the last of them. Without
@@ -29,17 +29,44 @@ pub fn unopened(x: Column, opened: usize, at: Reached) -> Seen
     requires { at.from.0 + at.hours < 2 ^ 64 }
     ensures { result ≡ unopened_of x opened at }
 {
-    let touched = nodes::touches(x, at);
-    let inside = touched && nodes::is_inside(x, at);
+    let range = at.range;
+    if !nodes::touches(x, at) {
+        return Seen {
+            outer: None,
+            inner: None,
+            opened,
+        };
+    }
+    if !nodes::is_inside(x, at) {
+        return Seen {
+            outer: range,
+            inner: None,
+            opened,
+        };
+    }
     let alone = Inner {
-        range: at.range,
+        range,
         first: at,
         last: at,
     };
     Seen {
-        outer: if touched { at.range } else { None },
-        inner: inside.then_some(alone),
+        outer: range,
+        inner: Some(alone),
         opened,
+    }
+}
+
+// A copy of inner nodes, made from their parts: for speed alone, as stepping copies a node.
+fn copy_inner(inner: Option<Inner>) -> Option<Inner>
+    ensures { result ≡ inner }
+{
+    match inner {
+        None => None,
+        Some(Inner { range, first, last }) => Some(Inner {
+            range: by_parts::copy_range(range),
+            first: by_parts::copy_node(first),
+            last: by_parts::copy_node(last),
+        }),
     }
 }
 
@@ -48,12 +75,15 @@ fn both_inner(a: Option<Inner>, b: Option<Inner>) -> Option<Inner>
     ensures { result ≡ both_inner a b }
 {
     match (a, b) {
-        (None, _) => b,
-        (_, None) => a,
+        (None, _) => copy_inner(b),
+        (_, None) => copy_inner(a),
         (Some(left), Some(right)) => Some(Inner {
-            range: node::both(left.range, right.range),
-            first: left.first,
-            last: right.last,
+            range: node::both(
+                by_parts::copy_range(left.range),
+                by_parts::copy_range(right.range),
+            ),
+            first: by_parts::copy_node(left.first),
+            last: by_parts::copy_node(right.last),
         }),
     }
 }
@@ -63,7 +93,7 @@ pub fn both_seen(a: Seen, b: Seen) -> Seen
     ensures { result ≡ both_seen a b }
 {
     Seen {
-        outer: node::both(a.outer, b.outer),
+        outer: node::both(by_parts::copy_range(a.outer), by_parts::copy_range(b.outer)),
         inner: both_inner(a.inner, b.inner),
         opened: b.opened,
     }

@@ -2,6 +2,7 @@
 // the nodes that a column opens and the walk to a first or last reading have in common.
 #![tactic(auto)]
 
+pub mod by_parts;
 pub mod nodes;
 
 ghost use Rattle.stepping.specs.Stepping.{Steps, SteppedFrom};

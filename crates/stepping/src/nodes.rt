@@ -2,7 +2,7 @@
 ghost use Rattle.std.specs.Prelude.{◌≡◌, ◌+◌, ◌*◌, ◌^◌, ◌<◌};
 ghost use Rattle.stepping.specs.Nodes.{is_pair_of, left_reached, right_reached, touches_of, inside_of, opened_of};
 
-use crate::Reached;
+use crate::{Reached, by_parts};
 use words::{Column, NodeId, Range, Timestamp};
 
 // Whether a node of two hours or more is a pair.
@@ -22,7 +22,7 @@ pub fn left_half(at: Reached, range: Option<Range>) -> Reached
         id: NodeId(2 * at.id.0),
         from: at.from,
         hours: at.hours / 2,
-        range,
+        range: by_parts::copy_range(range),
     }
 }
 
@@ -36,7 +36,7 @@ pub fn right_half(at: Reached, range: Option<Range>) -> Reached
         id: NodeId(2 * at.id.0 + 1),
         from: Timestamp(at.from.0 + half),
         hours: half,
-        range,
+        range: by_parts::copy_range(range),
     }
 }
 

@@ -12,7 +12,7 @@ ghost use Rattle.visiting.specs.Narrowing.{NarrowedFrom};
 use node::Halves;
 use sight::Seen;
 use sizes::Table;
-use stepping::{Reached, nodes};
+use stepping::{Reached, by_parts, nodes};
 use words::{Column, NodeId, Timestamp};
 
 // Where a visit has come to that had one half to go on with at each node, all sound: to one that is not opened, or to
@@ -47,7 +47,7 @@ fn narrow(
     ensures { NarrowedFrom table.now.n table.now.coefficients.now table.now.codes.now
         x stop before start result }
 {
-    let mut at = start;
+    let mut at = by_parts::copy_node(start);
     let mut opened = before;
     // No index is counted here: a node is made of the one before it, and only its look says whether it is opened.
     while nodes::is_opened(x, stop, at) {
