@@ -22,8 +22,10 @@ pub struct Reached {
 
 // One step down from a node of two hours or more, whose range is one of readings and whose details or code are there:
 // the ranges of its halves, or `None` where it is unsound. The node's parts are handed over one by one, and of its
-// hours only whether it is a pair, for speed alone: the compiler then puts the step into the loops that take it. It
-// reads two arrays, as C lends the table.
+// hours only whether it is a pair, for speed alone, and the compiler is told to put the step into the loops that take
+// it: as a call it answered through memory, and columns took up to 1.4 times as many instructions. It reads two arrays,
+// as C lends the table.
+#[inline(always)]
 pub fn step(
     table: &Table,
     i: NodeId,
