@@ -1,11 +1,11 @@
 // The numbers and the buffers of calls, read from the input.
-ghost use Rattle.std.specs.Prelude.{◌^◌, ◌<◌, ◌≤◌, length};
+ghost use Rattle.std.specs.Prelude.{◌≡◌, ◌-◌, ◌^◌, ◌<◌, ◌≤◌, ◌↔◌, IsTrue, drop, length, pos, take, unsigned_abs};
 
 use crate::TEXT;
 use std::io::Read;
 
 // Reads standard input, as far as there is room for it: the bytes that came. A read that fails ends it.
-fn read_input<'a>(rt: &impl Input, room: &'a mut [u8]) -> &'a [u8]
+pub fn read_input<'a>(rt: &impl Input, room: &'a mut [u8]) -> &'a [u8]
     ensures { length result.now ≤ length room.old }
 {
     let mut reader = rt.reader();
@@ -23,7 +23,7 @@ pub fn answer_all<F: FnMut(&mut Numbers)>(rt: &impl Input, mut answer: F)
 {
     let mut room = crate::room::<u8, TEXT>();
     let text = read_input(rt, &mut room);
-    let mut input = Numbers { rest: text };
+    let mut input = Numbers::of(text);
     for _ in text {
         if input.is_empty() {
             return;
@@ -32,13 +32,15 @@ pub fn answer_all<F: FnMut(&mut Numbers)>(rt: &impl Input, mut answer: F)
     }
 }
 
-// A number of the input.
+// A number of the input, with its sign.
 #[derive(Clone, Copy)]
-pub struct Number(i64);
+pub struct Number(pub i64);
 
 // A number as grams; 0 if its size does not fit, for -2,147,483,648 too. Each type has its own impl, here and below:
 // one for every T: TryFrom<u64> would be std's trait for types that are not this crate's.
 impl From<Number> for i32 {
+    ghost from_gives = { λ x y. let n = unsigned_abs x.0 in (n < 2 ^ 31 → y ≡ x.0) × (2 ^ 31 ≤ n → y ≡ pos 0) };
+
     fn from(x: Number) -> i32 {
         match i32::try_from(x.0) {
             Ok(grams) if grams != i32::MIN => grams,
@@ -49,6 +51,8 @@ impl From<Number> for i32 {
 
 // The size of a number as a byte; 0 if it does not fit.
 impl From<Number> for u8 {
+    ghost from_gives = { λ x y. let n = unsigned_abs x.0 in (n < 2 ^ 8 → y ≡ n) × (2 ^ 8 ≤ n → y ≡ 0) };
+
     fn from(x: Number) -> u8 {
         u8::try_from(x.0.unsigned_abs()).unwrap_or(0)
     }
@@ -56,6 +60,8 @@ impl From<Number> for u8 {
 
 // The same as a count of 16 bits.
 impl From<Number> for u16 {
+    ghost from_gives = { λ x y. let n = unsigned_abs x.0 in (n < 2 ^ 16 → y ≡ n) × (2 ^ 16 ≤ n → y ≡ 0) };
+
     fn from(x: Number) -> u16 {
         u16::try_from(x.0.unsigned_abs()).unwrap_or(0)
     }
@@ -63,6 +69,8 @@ impl From<Number> for u16 {
 
 // The size of a number.
 impl From<Number> for usize {
+    ghost from_gives = { λ x y. y ≡ unsigned_abs x.0 };
+
     fn from(x: Number) -> usize {
         x.0.unsigned_abs() as usize
     }
@@ -80,19 +88,31 @@ fn longer(size: u64, digit: u8) -> u64
     }
 }
 
-// What is left of the input.
+// The numbers of a text: what is left of its bytes.
 #[derive(Drop)]
 pub struct Numbers<'a> {
-    rest: &'a [u8],
+    pub rest: &'a [u8],
 }
 
 impl<'a> Numbers<'a> {
-    pub fn is_empty(&self) -> bool {
+    // The numbers of these bytes, from their start on.
+    pub fn of(text: &'a [u8]) -> Numbers<'a>
+        ensures { result.rest.now ≡ text.now }
+    {
+        Numbers { rest: text }
+    }
+
+    // Whether no byte is left.
+    pub fn is_empty(&self) -> bool
+        ensures { IsTrue result ↔ (length self.now.rest.now ≡ 0) }
+    {
         self.rest.is_empty()
     }
 
     // Passes over this byte, if it comes next, and tells whether it does.
-    fn skip(&mut self, b: u8) -> bool {
+    fn skip(&mut self, b: u8) -> bool
+        ensures { length self.new.rest.now ≤ length self.old.rest.now }
+    {
         match self.rest {
             [first, rest @ ..] if *first == b => {
                 self.rest = rest;
@@ -104,7 +124,8 @@ impl<'a> Numbers<'a> {
 
     // The digits that come next, as a number. Without a digit it is 0.
     fn digits(&mut self) -> u64
-        ensures { result < 2 ^ 44 }
+        ensures size { result < 2 ^ 44 }
+        ensures rest { length self.new.rest.now ≤ length self.old.rest.now }
     {
         let mut size = 0;
         while let [first @ b'0'..=b'9', rest @ ..] = self.rest {
@@ -115,7 +136,9 @@ impl<'a> Numbers<'a> {
     }
 
     // The number that comes next, and how many times it stands there. The next one begins a byte after its last digit.
-    fn entry(&mut self) -> (Number, u64) {
+    fn entry(&mut self) -> (Number, u64)
+        ensures { length self.new.rest.now ≤ length self.old.rest.now - 1 }
+    {
         let negative = self.skip(b'-');
         let size = self.digits() as i64;
         let times = if self.skip(b'*') { self.digits() } else { 1 };
@@ -125,14 +148,18 @@ impl<'a> Numbers<'a> {
         (Number(if negative { -size } else { size }), times)
     }
 
-    // The number that comes next. Of one that is repeated no more is taken.
-    pub fn number<T: From<Number>>(&mut self) -> T {
+    // The number that comes next, of a byte at least where one is left. Of one that is repeated no more is taken.
+    pub fn number<T: From<Number>>(&mut self) -> T
+        ensures { length self.new.rest.now ≤ length self.old.rest.now - 1 }
+    {
         T::from(self.entry().0)
     }
 
     // So many bytes, or as many as are left.
     pub fn bytes(&mut self, n: usize) -> &'a [u8]
-        ensures { length result.now ≤ n }
+        ensures within { length result.now ≤ n }
+        ensures first { result.now ≡ take n self.old.rest.now }
+        ensures left { self.new.rest.now ≡ drop n self.old.rest.now }
     {
         let (bytes, rest) = self.rest.split_at(n.min(self.rest.len()));
         self.rest = rest;
@@ -140,8 +167,11 @@ impl<'a> Numbers<'a> {
     }
 
     // Takes a buffer from the input: its length, cut at the room there is, and its content, into the start of the room.
+    // Inlined, so that a room whose content nothing reads is not cleared.
+    #[inline(always)]
     pub fn lend<'b, T: From<Number> + Copy>(&mut self, room: &'b mut [T]) -> &'b mut [T]
-        ensures { length result.now ≤ length room.old }
+        ensures within { length result.now ≤ length room.old }
+        ensures rest { length self.new.rest.now ≤ length self.old.rest.now - 1 }
     {
         let length = self.number::<usize>().min(room.len());
         let buffer = &mut room[..length];

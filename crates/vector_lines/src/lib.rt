@@ -5,8 +5,8 @@
 // was lent to be written, in which a number that is repeated is written once. Each answer and each buffer begins a
 // line, and a line of a buffer has at most eight numbers, a repeated one counted once.
 //
-// No contract can say what is read or written, so the functions here are proved to be safe and to end, and their
-// contracts say no more than that needs.
+// No contract can say what standard input holds or what is written, so what reads and writes is proved to be safe and
+// to end. Of a text the contracts say what is taken of it, and of a number what it is as each type.
 #![tactic(auto)]
 
 mod input;
@@ -14,11 +14,11 @@ mod output;
 
 ghost use Rattle.std.specs.Prelude.{◌≡◌, length};
 
-pub use input::{Number, Numbers, answer_all};
+pub use input::{Number, Numbers, answer_all, read_input};
 pub use output::Content;
 
 // How long the input may be.
-const TEXT: usize = 2_097_152;
+pub const TEXT: usize = 2_097_152;
 
 // How long a buffer of grams or of counts may be, one of codes, and a record, or flags: more than the largest table and
 // the longest log need.

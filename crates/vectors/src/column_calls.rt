@@ -11,6 +11,8 @@
 //
 // They tell the column's first hour and the hour after its last; both ranges and the count; the count, and in a line of
 // its own the answer; found and the grams. Joining has no refusal and tells the answer alone.
+//
+// As in `table_calls`, the rooms come before all that is read.
 use told::columns::{ToldAnswer, ToldChange, ToldColumn, ToldFinished, ToldRanges};
 use vector_lines::{CODES, GRAMS, Numbers, room};
 
@@ -76,11 +78,11 @@ pub fn edges(rt: &impl Print, input: &mut Numbers) {
 
 // Stops a column at a depth and writes the answer.
 pub fn stopped(rt: &impl Print, input: &mut Numbers) {
+    let mut coefficients = room::<i32, GRAMS>();
+    let mut codes = room::<u8, CODES>();
     let Asked { n, a, b, w, column } = column_of(input);
     let depth = input.number();
-    let mut coefficients = room::<i32, GRAMS>();
     let coefficients = input.lend(&mut coefficients);
-    let mut codes = room::<u8, CODES>();
     let codes = input.lend(&mut codes);
     let ToldRanges {
         number,
@@ -98,10 +100,10 @@ pub fn stopped(rt: &impl Print, input: &mut Numbers) {
 
 // Finishes a column and writes the answer.
 pub fn finished(rt: &impl Print, input: &mut Numbers) {
-    let Asked { n, a, b, w, column } = column_of(input);
     let mut coefficients = room::<i32, GRAMS>();
-    let coefficients = input.lend(&mut coefficients);
     let mut codes = room::<u8, CODES>();
+    let Asked { n, a, b, w, column } = column_of(input);
+    let coefficients = input.lend(&mut coefficients);
     let codes = input.lend(&mut codes);
     let ToldFinished {
         number,
@@ -122,11 +124,11 @@ pub fn join(rt: &impl Print, input: &mut Numbers) {
 
 // Asks for the change of a day and writes the answer.
 pub fn day_change(rt: &impl Print, input: &mut Numbers) {
+    let mut coefficients = room::<i32, GRAMS>();
+    let mut codes = room::<u8, CODES>();
     let n = input.number();
     let day = input.number();
-    let mut coefficients = room::<i32, GRAMS>();
     let coefficients = input.lend(&mut coefficients);
-    let mut codes = room::<u8, CODES>();
     let codes = input.lend(&mut codes);
     let ToldChange {
         number,

@@ -7,17 +7,19 @@
 //     15 place record                      opening and asking
 //
 // They tell how many bytes were written, the hours read, the hours and the places opened, the coefficient.
+//
+// As in `table_calls`, the rooms come before all that is read.
 use told::records::{ToldBytes, ToldCoefficient, ToldHours, ToldRecord};
 use vector_lines::{CODES, Content, GRAMS, Numbers, RECORD, room};
 
 // Writes a record and writes the answer.
 pub fn write(rt: &impl Print, input: &mut Numbers) {
-    let n = input.number();
     let mut coefficients = room::<i32, GRAMS>();
-    let coefficients = input.lend(&mut coefficients);
     let mut codes = room::<u8, CODES>();
-    let codes = input.lend(&mut codes);
     let mut bytes = room::<u8, RECORD>();
+    let n = input.number();
+    let coefficients = input.lend(&mut coefficients);
+    let codes = input.lend(&mut codes);
     let bytes = input.lend(&mut bytes);
     let ToldBytes {
         number,
@@ -30,10 +32,10 @@ pub fn write(rt: &impl Print, input: &mut Numbers) {
 // Reads a record and writes the answer.
 pub fn read(rt: &impl Print, input: &mut Numbers) {
     let mut bytes = room::<u8, RECORD>();
-    let bytes = input.lend(&mut bytes);
     let mut coefficients = room::<i32, GRAMS>();
-    let coefficients = input.lend(&mut coefficients);
     let mut codes = room::<u8, CODES>();
+    let bytes = input.lend(&mut bytes);
+    let coefficients = input.lend(&mut coefficients);
     let codes = input.lend(&mut codes);
     let ToldHours {
         number,
@@ -72,17 +74,17 @@ fn show(rt: &impl Print, told: ToldCoefficient) {
 
 // Asks an opened record and writes the answer.
 pub fn ask(rt: &impl Print, input: &mut Numbers) {
+    let mut bytes = room::<u8, RECORD>();
     let places = input.number();
     let place = input.number();
-    let mut bytes = room::<u8, RECORD>();
     let bytes = input.lend(&mut bytes);
     show(rt, sagivelume::sagivelume_ask(bytes, places, place));
 }
 
 // Opens a record, asks it, and writes the answer.
 pub fn ask_record(rt: &impl Print, input: &mut Numbers) {
-    let place = input.number();
     let mut bytes = room::<u8, RECORD>();
+    let place = input.number();
     let bytes = input.lend(&mut bytes);
     show(rt, view::ask_record(bytes, place).into());
 }
