@@ -3,7 +3,8 @@ use Rattle.kit.proofs.{◌≡◌, refl, sym, List, [], ◌∷◌, ℕ, ◌+◌, 
 use Rattle.kit.proofs.{Err, Ok, Result, le-ltb}
 use Rattle.words.specs.declared.Refusal.{Refusal}
 use Rattle.words.specs.Said.{stopped_as}
-use Rattle.words.specs.declared.{Column.Column, Refusal.TheVariants.TooDeep}
+use Rattle.words.specs.declared.{Column.Column, NodeId.NodeId, Refusal.TheVariants.TooDeep}
+use Rattle.words.specs.declared.{Refusal.TheVariants.Unsound}
 use Rattle.words.specs.declared.{Stopped.Stopped}
 use Rattle.om3.specs.Document.{levels, Node, Table, lent, in_order, opened_nodes, count_at, range_over, examine_column}
 use Rattle.laws.proofs.{Examined.then-passes}
@@ -37,6 +38,14 @@ module _ (n : ℕ) (cs : List ℤ) (ks : List ℕ) (x : Column) (stop : ℕ) whe
   module _ (some : x.from.0 < x.upto.0) where
     asked : (d : ℕ) → d ≤ l → stop ≡ 2 ^ (l - d) → StopsAt l d x stop
     asked d deep stops = record { deep = deep; stops = stops; some = some }
+
+    pub stopped-unsound : (i : NodeId) → TableVisited n cs ks x stop (Err i)
+        → StoppedOver n cs ks x stop (Err (Unsound i))
+    stopped-unsound i W =
+        record {
+          answer = λ d deep stops.
+              rw (lt-leb x.upto.0 x.from.0 some, sym (W.examined d (asked d deep stops)));
+        }
 
     pub stopped-seen : (s : Seen) → TableVisited n cs ks x stop (Ok s)
         → StoppedOver n cs ks x stop (stopped_as s.outer (inner_range s.inner) (1 + 2 * s.opened))

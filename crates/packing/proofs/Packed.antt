@@ -46,7 +46,7 @@ module _ (cs : List ℤ) (old : List ℕ) (size : length old ≡ 3 * length cs) 
     abbrev first : List ℕ
     first = flat_map three_bytes (take p cs)
 
-    packed-length : length out ≡ length old
+    pub packed-length : length out ≡ length old
     packed-length =
         rw k.packed (filled-length first old (omega (arith, size, k.within, first-length p k.within)))
 

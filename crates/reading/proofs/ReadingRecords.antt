@@ -62,7 +62,7 @@ module _ (r : List ℕ) where
     abbrev codes : List ℕ
     codes = take (length r - after) (drop after r)
 
-    record-length : length r ≡ after + p / 2
+    pub record-length : length r ≡ after + p / 2
     record-length = rw o.places (omega (arith, (opens-formed r o.opens).sized))
 
     packed-room : after - header_size ≤ length (drop header_size r)

@@ -1,7 +1,8 @@
 -- P is the least power of two that is at least n and at least 2. Assumes nothing.
-use Rattle.kit.proofs.{◌≡◌, ap, ◌∙◌, ⊎_elim, ℕ, ◌/◌, ◌^◌, ◌≤◌, ◌<◌, max, two-pow-succ, le_antisymm, arith}
+use Rattle.kit.proofs.{◌≡◌, ap, ◌∙◌, ⊎_elim, ℕ, ◌-◌, ◌/◌, ◌^◌, ◌≤◌, ◌<◌, max, two-pow-succ, le_antisymm, arith}
 use Rattle.kit.proofs.{pow_mono}
 use Rattle.std.specs.Int.{IsPowerOfTwo}
+use lib.Count.{count_leading_zeros, leading_length}
 use Rattle.words.specs.{largest_hours}
 use Rattle.om3.specs.Document.{levels, P}
 use Rattle.laws.proofs.{Tests.below_or_not}
@@ -27,3 +28,11 @@ module _ (n : ℕ) (most : n ≤ largest_hours) where
   next-power p power enough half =
       let is = power.1 in
       is ∙ ap (λ (j : ℕ). 2 ^ j) (exponent-is power.0 (rw is at enough) (rw is at half))
+
+-- Of more than two hours: where 64 bits hold n − 1, all but its leading zeros are l.
+module _ (n : ℕ) (more : 2 < n) (most : n ≤ largest_hours) where
+  pub bits-levels : n - 1 < 2 ^ 64 → 64 - count_leading_zeros 64 (n - 1) ≡ levels n
+  bits-levels fits =
+      let bits = leading_length 64 (n - 1) fits in
+      let is = exponent-is n most bits.0 (omega (arith, bits.2)) (omega (arith, bits.3)) in
+      omega (arith, bits.1)

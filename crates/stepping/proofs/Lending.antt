@@ -45,6 +45,13 @@ module _ {stop : ℕ} {cs : List ℤ} {ks : List ℕ} {at : Reached} (below : Be
       let here = below.located in
       omega (arith, node-ends below.levels v here.in_tree, here.begins, here.covers, pow_mono below.most)
 
+  -- Its number is not too large to be doubled.
+  pub small-number : at.id.0 + 1 ≤ 2 * largest_hours
+  small-number =
+      let here = below.located in
+      let tree = here.in_tree in
+      omega (arith, here.numbered, tree.among, pow_mono tree.deep, pow_mono below.most)
+
   -- It is opened: its details are there, or its code if it is a pair.
   module _ (wide : stop < at.hours) (two : 2 ≤ at.hours) where
     pair_code : at.hours < 4 → at.from.0 + 2 ≤ 2 * length ks

@@ -24,7 +24,7 @@ module _ (n : ℕ) (cs : Bor (List ℤ)) (ks : Bor (List ℕ)) (out : List ℕ) 
   checks = in_order (writing_checks n T (length out))
 
   -- A refusal leaves the bytes as they were.
-  refused : {why : Refusal} → checks ≡ refuses why → RecordWritten n cs.now ks.now out out (Err why)
+  pub refused : {why : Refusal} → checks ≡ refuses why → RecordWritten n cs.now ks.now out out (Err why)
   refused e = record { answer = rw e; bytes = rw e }
 
   pub lent-refused : (why : Refusal) → lent_check n T ≡ refuses why → RecordWritten n cs.now ks.now out out (Err why)
