@@ -4,8 +4,8 @@
 // On standard input a text is a line with its length in bytes and with how many bytes a piece has, one space apart, and
 // then its bytes. What is written is what the printer prints for it, and an empty line.
 //
-// What is read and printed is stated and proved where it stands, and what is taken of the input in `vector_lines`,
-// which reads the numbers. The contracts here say no more than safety needs.
+// What is read and printed is stated and proved where it stands. As in `vector_lines`, which reads the numbers, the
+// contracts here say no more than safety needs.
 #![tactic(auto)]
 
 use vector_lines::Numbers;

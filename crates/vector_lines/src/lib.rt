@@ -6,7 +6,8 @@
 // line, and a line of a buffer has at most eight numbers, a repeated one counted once.
 //
 // No contract can say what standard input holds or what is written, so what reads and writes is proved to be safe and
-// to end. Of a text the contracts say what is taken of it, and of a number what it is as each type.
+// to end. Of a text the contracts say how much of it is taken at least, and of `bytes` what; and of a number what it is
+// as each type. Which number stands in a text they do not say.
 #![tactic(auto)]
 
 mod input;

@@ -6,8 +6,8 @@
 // number of the refusal, 0 if the call was taken, its place, what the call tells, and the whole content of each buffer
 // that was lent to be written. What cannot be written is passed over, and is missing in what is compared.
 //
-// What the calls answer is stated and proved where they stand, and what is taken of the input in `vector_lines`, which
-// reads and writes the numbers. The contracts here say no more than safety needs.
+// What the calls answer is stated and proved where they stand. As in `vector_lines`, which reads and writes the
+// numbers, the contracts here say no more than safety needs.
 #![tactic(auto)]
 
 mod column_calls;
